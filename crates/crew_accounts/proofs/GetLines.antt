@@ -1,5 +1,5 @@
 -- A line that gets the entry of a URL.
-use Rattle.std.proofs.Common.{Bool, Contains, List, None, Some, ap, arith, inl, inr, refl, subst, sym, ⊎_elim, ◌<◌, ◌∙◌, ◌≡◌, ◌≤◌, ◌⊎◌, ℕ}
+use Rattle.std.proofs.Common.{Bool, Contains, List, None, Some, ap, arith, inl, inr, refl, subst, sym, ◌<◌, ◌∙◌, ◌≡◌, ◌≤◌, ◌⊎◌, ℕ}
 use Rattle.std.specs.Prelude.{IsTrue}
 use Rattle.lock_word.specs.Words.{epoch_number, version_of}
 use Rattle.lock_word.specs.declared.cause.Cause.{Cause}
@@ -29,7 +29,7 @@ use Rattle.store_rule.specs.declared.store.Store.{Store}
 use Rattle.store_rule.specs.Ground.{Ground, Offers, anchor_for, cut_of}
 use Rattle.store_rule.specs.Passes.{basis, view}
 use Rattle.rock_reader.specs.Opening.{Refused}
-use Rattle.rock_reader.specs.Reading.{IsHalted, Standing, StaysHalted, StaysOther, TurnsOut, newly}
+use Rattle.rock_reader.specs.Reading.{Standing, StaysOther, TurnsOut, newly}
 use Rattle.rock_reader.specs.Responses.{body_below, pieces_of}
 use Rattle.rock_reader.specs.declared.answer.More.{More}
 use Rattle.rock_reader.specs.declared.answer.More.TheVariants as more
@@ -238,7 +238,7 @@ module _ {C O : Type 0} (tells : Bool) (state : C → CellState) (offers : O →
         let some = waits_some tells state offers s whole_tab k.went.middle k.read k.went.standing k.went.before k.went.after epoch on_it.reads w in
         let stage = at_stage epoch Stage.Appending k.went.ends.grows in
         let its : version_of (epoch_number epoch) ≡ k.went.standing.version = version_of-epoch_number epoch ∙ w.version_is in
-        let high = subst (λ (n : ℕ). opening_counter g.setting < n) its (grown_version g (view k.read) k.went.standing.anchor (epoch_number epoch) k.went.ends.stays.own.stands w.fresh.seen stage) in
+        let high = subst (λ (n : ℕ). opening_counter g.setting < n) its (grown_version g (view k.read) k.went.standing.anchor (epoch_number epoch) w.stays.own.stands w.fresh.seen stage) in
         subst (λ (z : Answer). AddsLine tells state offers s told past served line p z q) (sym is)
         (add_it version (more.NotYet epoch) bytes k (answer.Part epoch bytes) 0
         (shows_one r.setting.anchors (view p) (view q) served l url refl (epoch_number epoch) refl (found_turn version (more.NotYet epoch) bytes k (epoch_number epoch)
@@ -266,9 +266,8 @@ module _ {C O : Type 0} (tells : Bool) (state : C → CellState) (offers : O →
         (shows_one r.setting.anchors (view p) (view q) served l url refl (epoch_number k.opens.epoch) refl (opened_turn version more.End bytes k))
         (λ y. (has_hit version more.End bytes k (answer.Hit version bytes) 0 comes y w.some w.all, has_given version more.End bytes k (answer.Hit version bytes) 0 refl y (λ z. w.some) (λ z. (w.some, w.all)) (λ z. absurd z)))
         (λ y e gave z. absurd (let x : answer.Hit version bytes ≡ answer.Part e gave = z in cc)) tt comes (λ z. cc))
-    by_ending version more.Halted bytes a k is = ⊎_elim
-        (λ (w : StaysHalted tells state offers s whole_tab k.went.middle k.went.standing k.went.before k.went.after k.read). absurd (one_bool k.went.standing.is_halted w.was (so version more.Halted bytes k).halted))
-        (λ (w : IsHalted tells state offers s whole_tab k.went.middle k.went.standing k.went.before k.went.after k.read).
+    by_ending version more.Halted bytes a k is =
+        let w = k.went.ends in
         let l = served_as line (answer.Halted bytes) None (epoch_number k.opens.epoch) (epoch_number w.epoch) in
         let some = waits_some tells state offers s whole_tab k.went.middle k.read k.went.standing k.went.before k.went.after w.epoch (so version more.Halted bytes k).reads w.waits in
         subst (λ (z : Answer). AddsLine tells state offers s told past served line p z q) (sym is)
@@ -279,8 +278,7 @@ module _ {C O : Type 0} (tells : Bool) (state : C → CellState) (offers : O →
           of_opened version more.Halted bytes k (answer.Halted bytes) (epoch_number w.epoch) (epoch_number w.epoch) (version_of-epoch_number w.epoch ∙ w.waits.version_is),
           (λ y. has_given version more.Halted bytes k (answer.Halted bytes) (epoch_number w.epoch) refl y (λ z. some) (λ z. absurd z) (λ z. absurd z)),
         )
-        (λ y e gave z. absurd (let x : answer.Halted bytes ≡ answer.Part e gave = z in cc)) tt tt (λ z. cc)))
-        k.went.ends
+        (λ y e gave z. absurd (let x : answer.Halted bytes ≡ answer.Part e gave = z in cc)) tt tt (λ z. cc))
     by_ending version more.OtherUrl bytes a k is =
         let l = served_as line answer.OtherUrl None (epoch_number k.opens.epoch) 0 in
         subst (λ (z : Answer). AddsLine tells state offers s told past served line p z q) (sym is)

@@ -106,7 +106,6 @@ module _ {C O : Type 0} (tells : Bool) (state : C → CellState) (offers : O →
                 ended = λ z. absurd (both (answered_more is_end t (l ∷ served)) z (none_answered t l served is_end (self_true t)));
                 turned = λ z. absurd (both (answered_more is_other_url t (l ∷ served)) z (none_answered t l served is_other_url (self_true t)));
                 halted = λ z. absurd (both (answered_more is_halted t (l ∷ served)) z (none_answered t l served is_halted (self_true t)));
-                behind = λ z. absurd (let c : false ≡ true = z in cc);
               }))) tracks;
         }
 

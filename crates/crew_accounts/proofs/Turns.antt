@@ -22,7 +22,7 @@ use Rattle.store_rule.specs.Passes.{view}
 use Rattle.store_rule.specs.Told.{Steps}
 use Rattle.store_rule.proofs.Moves.{known_of}
 use Rattle.rock_reader.specs.Opening.{Came}
-use Rattle.rock_reader.specs.Reading.{ReadsAs, Standing, StaysHalted, Waits}
+use Rattle.rock_reader.specs.Reading.{ReadsAs, Standing, Waits}
 use Rattle.rock_writer.specs.Beginning.{AreFresh, InUse, Overtaken}
 use Rattle.purge_entry.specs.Purging.{Purged}
 use Rattle.store_serve.proofs.Anchors.{drew}
@@ -67,14 +67,6 @@ waits_turn tells state offers s t m q f before after epoch reads k =
     let at : anchor_of (tab_at (view m) t) ≡ f.anchor = ap anchor_of reads.is ∙ reads.anchor_is in
     in_turn k.fresh (subst (λ (a : ℕ). AreLed a (epoch_number epoch) (view m)) at
     (step_leads _ (view m) (Look (anchor_of (tab_at (view m) t))) k.found.word k.found.looked (anchor_of (tab_at (view m) t)) (epoch_number epoch) k.found.look (λ i. Some (Anchor (anchor_of (tab_at (view m) t)))) k.found.epoch_is))
-
--- and one that looks again, behind HALTED
-pub again_turn : {C O : Type 0} → (tells : Bool) (state : C → CellState) (offers : O → Offers) (s : Store C O) (t : ℕ) (m q : Pass C) (f : Standing) (before after : List ℕ)
-    → ReadsAs tells state offers s m t f → (k : StaysHalted tells state offers s t m f before after q) → IsInTurn f.anchor (epoch_number k.epoch) (view m) (view q)
-again_turn tells state offers s t m q f before after reads k =
-    let at : anchor_of (tab_at (view m) t) ≡ f.anchor = ap anchor_of reads.is ∙ reads.anchor_is in
-    in_turn k.fresh (subst (λ (a : ℕ). AreLed a (epoch_number k.epoch) (view m)) at
-    (step_leads _ (view m) (Look (anchor_of (tab_at (view m) t))) k.found.word (view q) (anchor_of (tab_at (view m) t)) (epoch_number k.epoch) k.found.look (λ i. Some (Anchor (anchor_of (tab_at (view m) t)))) k.found.epoch_is))
 
 -- The words of a refused begin.
 module _ {X : Type 0} (g : Ground X) (t a : ℕ) (v : View X) (looked found : Word) (w : View X) (small : looked.readers < 65536) (low : found.readers < 65536) where

@@ -2,12 +2,11 @@
 use Rattle.std.proofs.Common.{Bool, List, [], ap, false, inl, inr, true, ◌∙◌, ◌∷◌, ◌≡◌, ◌≢◌, ◌⊎◌, ℕ}
 use Rattle.rock_disk.specs.Cell.{CellState}
 use Rattle.core_model.specs.Tabs.{inner, tab_at}
-use Rattle.core_model.specs.declared.view.View.{View}
 use Rattle.store_rule.specs.declared.store.Pass.{Pass}
 use Rattle.store_rule.specs.declared.store.Store.{Store}
 use Rattle.store_rule.specs.Ground.{Ground, Offers}
 use Rattle.store_rule.specs.Passes.{basis, view}
-use Rattle.rock_reader.specs.Reading.{Gave, HasTried, IsHalted, Standing, StaysHalted, StaysOther, TurnsOut}
+use Rattle.rock_reader.specs.Reading.{Gave, HasTried, Standing, StaysOther, TurnsOut}
 use Rattle.rock_reader.specs.declared.answer.More.{More}
 use Rattle.rock_reader.specs.declared.answer.More.TheVariants as more
 use Rattle.rock_reader.proofs.InnerTab.{looked_inner, read_inner}
@@ -28,11 +27,7 @@ module _ {C O : Type 0} (tells : Bool) (state : C → CellState) (offers : O →
   gave_inner p e before after q (more.Piece count) h = tried_inner p e before after q true h.tried
   gave_inner p e before after q (more.NotYet epoch) h = looked_inner g t far epoch _ (view p) (view q) h.waits.found
   gave_inner p e before after q more.End h = ap (λ (z : Pass C). tab_at (view z) inner) h.still
-  gave_inner p e before after q more.Halted h = of_halted h
-    where
-      of_halted : StaysHalted tells state offers s t p e before after q ⊎ IsHalted tells state offers s t p e before after q → InnerSame p q
-      of_halted (inl k) = ap (λ (v : View (List ℕ)). tab_at v inner) k.found.look.leaves
-      of_halted (inr k) = looked_inner g t far k.epoch _ (view p) (view q) k.waits.found
+  gave_inner p e before after q more.Halted h = looked_inner g t far h.epoch _ (view p) (view q) h.waits.found
   gave_inner p e before after q more.OtherUrl h = of_other h
     where
       of_other : StaysOther tells state offers s t p e before after q ⊎ TurnsOut tells state offers s t p e before after q → InnerSame p q

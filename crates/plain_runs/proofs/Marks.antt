@@ -3,6 +3,7 @@ use Rattle.std.proofs.Common.{Contains, Bool, List, [], ap, arith, refl, subst, 
 use Rattle.std.proofs.lemmas.Bool.{false≢true}
 use Rattle.std.proofs.lemmas.List.Elements.{Contains-append_right}
 use Rattle.rock_disk.specs.Cell.{CellState}
+use Rattle.core_model.specs.TableForms.{learns}
 use Rattle.core_model.specs.Tabs.{inner, is_free, tab_at}
 use Rattle.core_model.specs.declared.view.Item.{Item}
 use Rattle.core_model.specs.declared.view.Sight.{Sight}
@@ -16,7 +17,6 @@ use Rattle.store_rule.specs.declared.store.Pass.{Pass}
 use Rattle.store_rule.specs.declared.store.Store.{Store}
 use Rattle.tab_states.specs.Desks.{buffer_at, draft_at}
 use Rattle.store_rule.specs.Ground.{Offers}
-use Rattle.store_rule.specs.Notes.{sees}
 use Rattle.store_rule.specs.Passes.{Keeps, basis, view}
 use Rattle.store_serve.specs.Tabs.{IsFree, Leaves}
 use Rattle.worker_shelf.proofs.Holding.{Stays}
@@ -31,7 +31,7 @@ module _ {C O : Type 0} (tells : Bool) (state : C → CellState) (offers : O →
     pub keeps : Keeps tells state offers s p q
     pub sights : List Sight
     pub item : Item
-    pub view_is : view q ≡ sees (view p) sights item
+    pub view_is : view q ≡ learns (view p) sights item
 
   module _ (stays : Stays tells state offers s) (p q : Pass C) (more : SeesMore p q) where
     same_tab : (t : ℕ) → tab_at (view q) t ≡ tab_at (view p) t
@@ -105,4 +105,4 @@ module _ {C O : Type 0} (tells : Bool) (state : C → CellState) (offers : O →
           -- no word has changed
           knows_more : Knows (basis tells state offers s) (λ v. v) (view q) plain no_guests
           knows_more = subst (λ (v : View (List ℕ)). Knows (basis tells state offers s) (λ v. v) v plain no_guests) (sym more.view_is)
-              (knows_same (basis tells state offers s) (λ v. v) (view p) (sees (view p) more.sights more.item) plain no_guests shows.knows record { same = λ place known here none. refl })
+              (knows_same (basis tells state offers s) (λ v. v) (view p) (learns (view p) more.sights more.item) plain no_guests shows.knows record { same = λ place known here none. refl })

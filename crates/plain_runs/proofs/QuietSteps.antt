@@ -38,7 +38,7 @@ use Rattle.store_rule.proofs.MyWords.{found_mine}
 use Rattle.slice_chain.specs.Links.{Located}
 use Rattle.slice_chain.specs.Names.{KeyLoaded}
 use Rattle.slice_chain.specs.Reads.{after_reading, ReadSlot}
-use Rattle.rock_reader.specs.Reading.{Gave, HasTried, IsHalted, LookedAt, ReadsAs, Standing, StaysHalted, StaysOther, TurnsOut}
+use Rattle.rock_reader.specs.Reading.{Gave, HasTried, LookedAt, ReadsAs, Standing, StaysOther, TurnsOut}
 use Rattle.rock_reader.specs.declared.answer.More.{More}
 use Rattle.rock_reader.specs.declared.answer.More.TheVariants as more
 use Rattle.store_serve.specs.Following.{Given, Gives, WentOn}
@@ -173,12 +173,7 @@ module _ {C O : Type 0} (tells : Bool) (state : C → CellState) (offers : O →
   gave_quiet p e before after q (more.Piece count) at h = tried_quiet p e before after q true at h.tried
   gave_quiet p e before after q (more.NotYet epoch) at h = looked_quiet g pass a own t epoch _ (view p) (view q) at.0 at.1 h.waits.found
   gave_quiet p e before after q more.End at h = quiet_is g (view p) (view q) (ap view h.still)
-  gave_quiet p e before after q more.Halted at h = of_halted h
-    where
-      of_halted : StaysHalted tells state offers s t p e before after q ⊎ IsHalted tells state offers s t p e before after q → Quiet g (view p) (view q)
-      of_halted (inl k) = step_quiet g (view p) (view q) (Look (anchor_of (tab_at (view p) t))) k.found.word (Anchor (anchor_of (tab_at (view p) t))) k.found.look refl refl refl
-          (own.words (view p) (Anchor (anchor_of (tab_at (view p) t))) at.0 at.1)
-      of_halted (inr k) = looked_quiet g pass a own t k.epoch _ (view p) (view q) at.0 at.1 k.waits.found
+  gave_quiet p e before after q more.Halted at h = looked_quiet g pass a own t h.epoch _ (view p) (view q) at.0 at.1 h.waits.found
   gave_quiet p e before after q more.OtherUrl at h = of_other h
     where
       of_other : StaysOther tells state offers s t p e before after q ⊎ TurnsOut tells state offers s t p e before after q → Quiet g (view p) (view q)

@@ -53,7 +53,3 @@ kept_there ds qs t bytes d lt e is = ap (λ (z : List Desk). kept_at z t) is
 pub held_there : (ds qs : List Desk) (t : ℕ) (bytes : List ℕ) (d : Draft) → t < length ds → qs ≡ with_draft_at (with_buffer_at ds t bytes) t d → held_at qs t ≡ d.held
 held_there ds qs t bytes d lt is = ap (λ (z : List Desk). held_at z t) is
     ∙ ap (λ (z : Draft). z.held) (draft_same (with_buffer_at ds t bytes) t d (let l = Rattle.tab_states.specs.Desks.as_many ds t bytes in omega arith))
-
-pub draft_there : (ds qs : List Desk) (t : ℕ) (bytes : List ℕ) (d : Draft) → t < length ds → qs ≡ with_draft_at (with_buffer_at ds t bytes) t d → draft_at qs t ≡ d
-draft_there ds qs t bytes d lt is = ap (λ (z : List Desk). draft_at z t) is
-    ∙ draft_same (with_buffer_at ds t bytes) t d (let l = Rattle.tab_states.specs.Desks.as_many ds t bytes in omega arith)

@@ -1,5 +1,5 @@
 -- What a slot that was read gives a reading tab.
-use Rattle.std.proofs.Common.{Bool, List, ap, arith, false, subst, sym, true, ◌+◌, ◌<◌, ◌≡◌, ◌≢◌, ◌≤◌, ◌∙◌, ℕ}
+use Rattle.std.proofs.Common.{Bool, List, ap, arith, subst, sym, true, ◌+◌, ◌<◌, ◌≡◌, ◌≢◌, ◌≤◌, ◌∙◌, ℕ}
 use Rattle.std.specs.Prelude.{IsTrue}
 use Rattle.lock_word.specs.declared.epoch.Epoch.{Epoch}
 use Rattle.link_word.specs.Words.{link_number}
@@ -59,8 +59,8 @@ module _ {C O : Type 0} (tells : Bool) (state : C → CellState) (offers : O →
       (buffer_long tells state offers s u inner (omega arith) reading.own))
 
   -- the tab was given the slot at its place, or its entry turned out to be another one
-  pub gave_read : OfReader (λ r. 0 < r.place → 0 < held_at p.desks t) (tab_at (view p) t) → e.is_halted ≡ false → (place : ℕ) → OfReader (λ r. r.place ≡ place) (tab_at (view p) t) → (before after : List ℕ) (w : Pass C) (r : More)
+  pub gave_read : OfReader (λ r. 0 < r.place → 0 < held_at p.desks t) (tab_at (view p) t) → (place : ℕ) → OfReader (λ r. r.place ≡ place) (tab_at (view p) t) → (before after : List ℕ) (w : Pass C) (r : More)
       → Delivered t g.setting.slots place u before after w r → Gave tells state offers s t p e before after w r
-  gave_read known going place at before after w r d = gave_given tells state offers s t p e reads q epoch link found follows written u cell has.read reading
-      (known_held tells state offers s t p e reads known) going dec
+  gave_read known place at before after w r d = gave_given tells state offers s t p e reads q epoch link found follows written u cell has.read reading
+      (known_held tells state offers s t p e reads known) dec
       place (sym (reader_of_tab (λ x. x.place ≡ place) (tab_at (view p) t) reads.reader reads.is at) ∙ reads.place_is) before after w r d

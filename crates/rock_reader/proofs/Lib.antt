@@ -13,7 +13,6 @@ pub mod Pieces
 pub mod KnownRead
 pub mod Decoding
 pub mod DecodedRead
-pub mod StillHalted
 pub mod Answering
 pub mod Stopped
 pub mod GivenBodies

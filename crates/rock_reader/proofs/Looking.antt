@@ -50,7 +50,7 @@ module _ {X : Type 0} (g : Ground X) (t : ℕ) where
   pub linked_sees : (link : Link) (v w : View X) (x : Sight) → Linked g t link v w → Contains v.seen x → Contains w.seen x
   linked_sees link v w x h c = step_sees g h.middle w _ _ x h.step (located_sees h.slot v h.middle x h.located c)
 
-pub no_tab : (t u : ℕ) → None ≡ Some u → u ≡ t
+no_tab : (t u : ℕ) → None ≡ Some u → u ≡ t
 no_tab t u e = cc
 
 module _ {C O : Type 0} (tells : Bool) (state : C → CellState) (offers : O → Offers) (s : Store C O) (t : ℕ) (p : Pass C) (may : MayLocate tells state offers s p t) (a : ℕ) (at : a ≡ anchor_of (tab_at (view p) t)) where

@@ -1,6 +1,5 @@
 -- What is as it was when a tab has read on.
-use Rattle.std.proofs.Common.{Bool, List, ap, get_or, inl, inr, refl, subst, sym, ◌≡◌, ◌≢◌, ◌∙◌, ℕ}
-use Rattle.lock_word.specs.declared.epoch.Epoch.{Epoch}
+use Rattle.std.proofs.Common.{Bool, List, ap, get_or, refl, subst, sym, ◌≡◌, ◌≢◌, ◌∙◌, ℕ}
 use Rattle.rock_disk.specs.Cell.{CellState}
 use Rattle.core_model.specs.Tabs.{inner, tab_at}
 use Rattle.core_model.specs.declared.view.View.{View}
@@ -18,7 +17,7 @@ use Rattle.store_rule.specs.Calls.{Follows}
 use Rattle.store_rule.specs.Quiet.{Quiet}
 use Rattle.store_rule.proofs.Quieting.{quiet_same}
 use Rattle.slice_chain.specs.Reads.{FollowsReading}
-use Rattle.rock_reader.specs.Reading.{Delivered, ToldUnwritten}
+use Rattle.rock_reader.specs.Reading.{Delivered}
 use Rattle.rock_reader.specs.Wanted.{FollowsReader, held_at}
 use Rattle.rock_reader.specs.declared.answer.More.{More}
 use Rattle.rock_reader.proofs.Desks.{buffer_drafted, buffer_other, draft_lent, draft_other}
@@ -84,15 +83,6 @@ module _ {C O : Type 0} (tells : Bool) (state : C → CellState) (offers : O →
   follows_given slots place p u q before after More.End h d = absurd d
   follows_given slots place p u q before after More.Halted h d = absurd d
   follows_given slots place p u q before after More.Fault h d = absurd d
-
-  -- what an unwritten link means is kept for the tab alone
-  pub follows_told : (epoch : Epoch) (p u q : Pass C) (r : More) → FollowsReader tells state offers s t p u → ToldUnwritten t epoch u q r → FollowsReader tells state offers s t p q
-  follows_told epoch p u q r h (inl k) = subst (FollowsReader tells state offers s t p) (sym k.still) h
-  follows_told epoch p u q r h (inr k) = follows_drafted _ p u q h k.keeps
-
-pub told_view : {C : Type 0} (t : ℕ) (epoch : Epoch) (p q : Pass C) (r : More) → ToldUnwritten t epoch p q r → view q ≡ view p
-told_view t epoch p q r (inl k) = ap view k.still
-told_view t epoch p q r (inr k) = drafted_view t _ p q k.keeps
 
 -- to give it is no step
 pub given_quiet : {C : Type 0} (t slots place : ℕ) (p q : Pass C) (before after : List ℕ) (r : More) → Delivered t slots place p before after q r → Quiet (view p) (view q)

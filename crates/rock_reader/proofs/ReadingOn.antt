@@ -2,8 +2,7 @@
 use Rattle.std.proofs.Common.{Bool, Contains, List, None, Some, [], ap, arith, cond, false, get_or, get_or-set_same, inr, length, refl, subst, suc, sym, take, true, zero, ⊎_elim, ◌+◌, ◌∷◌, ◌<◌, ◌≡◌, ◌≢◌, ◌≤◌, ◌∙◌, ℕ}
 use Rattle.std.specs.Prelude.{IsTrue}
 use Rattle.std.proofs.lemmas.Bool.{cases_eq, false≢true, le-leb}
-use Rattle.lock_word.specs.Words.{epoch_number, stage_number}
-use Rattle.lock_word.proofs.Parts.{stage_of-epoch_number, version_of-epoch_number}
+use Rattle.lock_word.specs.Words.{epoch_number}
 use Rattle.lock_word.specs.declared.epoch.Epoch.{Epoch}
 use Rattle.lock_word.specs.declared.stage.Stage.{Stage}
 use Rattle.link_word.specs.declared.link.Link.{Link}
@@ -27,16 +26,15 @@ use Rattle.store_rule.specs.declared.store.Store.{Store}
 use Rattle.tab_states.specs.Desks.{buffer_at, draft_at}
 use Rattle.store_rule.specs.Ground.{Ground, Offers}
 use Rattle.store_rule.specs.Passes.{IsOf, basis, view}
-use Rattle.store_rule.specs.Drafts.{DraftMoves}
 use Rattle.store_rule.specs.Turns.{Lost, new_hold}
 use Rattle.store_rule.proofs.Drafting.{drafted_own}
 use Rattle.store_rule.proofs.Passing.{pass_of}
 use Rattle.store_rule.specs.Calls.{Follows, IsFresh}
 use Rattle.slice_chain.specs.Reads.{FollowsReading, HoldsPiece, MayReadSlot, ReadSlot, went_on}
 use Rattle.rock_reader.specs.Bodies.{HasUrl, IsOfEntry, body_of}
-use Rattle.rock_reader.specs.Reading.{Delivered, Fails, Gave, GaveBody, GaveNone, HasResponse, HasTried, IsPiece, LookedAt, MayRead, ReadsAs, SeesHalted, Standing, ToldUnwritten, TurnsOut, Waits, halting, onward, turned}
+use Rattle.rock_reader.specs.Reading.{Delivered, Fails, Gave, GaveBody, GaveNone, HasResponse, HasTried, IsPiece, LookedAt, MayRead, ReadsAs, Standing, TurnsOut, Waits, onward, turned}
 use Rattle.rock_reader.specs.Responses.{HoldsFile, IsResponse, pieces_of}
-use Rattle.rock_reader.specs.Wanted.{halted_at, halted_draft, held_at, kept_at, kept_of}
+use Rattle.rock_reader.specs.Wanted.{held_at, kept_at, kept_of}
 use Rattle.rock_reader.specs.declared.answer.More.{More}
 use Rattle.rock_reader.proofs.Coming.{step_sees}
 use Rattle.rock_reader.proofs.Decoded.{Decoded, body_is, of_entry}
@@ -108,10 +106,6 @@ module _ {X : Type 0} (g : Ground X) (t : ℕ) where
   pub read_sees : (v w : View X) (done : Bool) (cell : Cell X) (x : Sight) → ReadSlot g t v done cell w → Contains v.seen x → Contains w.seen x
   read_sees v w done cell x h c = step_sees g h.middle w _ 1 x h.ended (step_sees g h.last h.middle _ 0 x h.tried (lost_sees g t h.slot x v h.views h.last h.lost c))
 
--- what was seen halted is seen so by who has seen more
-pub sees_on : {X : Type 0} → (e : Standing) (v w : View X) → ((x : Sight) → Contains v.seen x → Contains w.seen x) → SeesHalted e v → SeesHalted e w
-sees_on e v w more h = record { epoch = h.epoch; version_is = h.version_is; halted = h.halted; seen = more _ h.seen }
-
 module _ {C O : Type 0} (tells : Bool) (state : C → CellState) (offers : O → Offers) (s : Store C O) (t : ℕ) (p : Pass C) where
   abbrev g : Ground (List ℕ)
   g = basis tells state offers s
@@ -151,9 +145,6 @@ module _ {C O : Type 0} (tells : Bool) (state : C → CellState) (offers : O →
     held1 : held_at q.desks t ≡ held_at p.desks t
     held1 = ap (λ (ds : List Desk). held_at ds t) follows.desks
 
-    halted1 : halted_at q.desks t ≡ halted_at p.desks t
-    halted1 = ap (λ (ds : List Desk). halted_at ds t) follows.desks
-
     -- of a tab that was given a slot, and has a URL that it wants, no slot was of another entry
     not_turned : (0 < e.place → 0 < held_at p.desks t) → e.is_other ≡ false
     not_turned known = is_false e.is_other (λ o. let h = reads.other o in let k = known h.0 in absurd (omega (arith, k, h.1)))
@@ -176,8 +167,6 @@ module _ {C O : Type 0} (tells : Bool) (state : C → CellState) (offers : O →
       held = λ f. subst (λ (n : ℕ). n ≤ g.slot) (sym held1) (reads.held f);
       given = λ f some. let h = reads.given f some in (subst (λ (n : ℕ). 0 < n) (sym held1) h.0, h.1);
       other = λ f. let h = reads.other f in (h.0, held1 ∙ h.1);
-      halted = halted1 ∙ reads.halted;
-      sees = λ f. let h = reads.sees f in (h.0, sees_on e (view p) (view q) seen1 h.1);
     }
 
     -- Where the link is not written.
@@ -186,87 +175,27 @@ module _ {C O : Type 0} (tells : Bool) (state : C → CellState) (offers : O →
       found0 : LookedAt g t epoch NotWritten (view p) (view q)
       found0 = subst (λ (l : Link). LookedAt g t epoch l (view p) (view q)) none found
 
-      -- so it is of a pass that knows the same
-      module _ (known : 0 < e.place → 0 < held_at p.desks t) (going : e.is_halted ≡ false) (before after : List ℕ) (same : after ≡ before) where
-        waits : (w : Pass C) → view w ≡ view q → Waits tells state offers s t p e before after w epoch
-        waits w same_view = record {
-          was = not_turned known;
-          going = going;
-          found = subst (LookedAt g t epoch NotWritten (view p)) (sym same_view) found0;
-          fresh = subst (IsFresh e.anchor (epoch_number epoch) (view p)) (sym same_view)
-              (subst (λ (z : ℕ). IsFresh z (epoch_number epoch) (view p) (view q)) (ap anchor_of reads.is ∙ reads.anchor_is) fresh);
-          version_is = unwritten.version_is g t (view p) (view q) epoch (pass_of p) le reads.reader reads.is found0 ∙ reads.version_is;
-          published = λ n c. subst (λ (z : ℕ). n ≤ z) reads.place_is (unwritten.none_more g t (view p) (view q) epoch (pass_of p) le reads.reader reads.is found0 n
-              (subst (λ (z : Sight). Contains (view q).seen z) (λ i. Published (sym reads.anchor_is i) (sym reads.version_is i) n)
-              (subst (λ (v : View (List ℕ)). Contains v.seen (Published e.anchor e.version n)) same_view c)));
-          same = same;
-        }
+      waits : (0 < e.place → 0 < held_at p.desks t) → (before after : List ℕ) → after ≡ before → Waits tells state offers s t p e before after q epoch
+      waits known before after same = record {
+        was = not_turned known;
+        found = found0;
+        fresh = subst (λ (z : ℕ). IsFresh z (epoch_number epoch) (view p) (view q)) (ap anchor_of reads.is ∙ reads.anchor_is) fresh;
+        version_is = unwritten.version_is g t (view p) (view q) epoch (pass_of p) le reads.reader reads.is found0 ∙ reads.version_is;
+        published = λ n c. subst (λ (z : ℕ). n ≤ z) reads.place_is (unwritten.none_more g t (view p) (view q) epoch (pass_of p) le reads.reader reads.is found0 n
+            (subst (λ (z : Sight). Contains (view q).seen z) (λ i. Published (sym reads.anchor_is i) (sym reads.version_is i) n) c));
+        stays = stays;
+        same = same;
+      }
 
-        -- the entry grows
-        not_yet : epoch.stage ≡ Stage.Appending → Gave tells state offers s t p e before after q (More.NotYet epoch)
-        not_yet h = record {
-          waits = waits q refl;
-          grows = h;
-          stages = λ f c v. unwritten.none_later g t (view p) (view q) epoch (pass_of p) le reads.reader reads.is found0 h f
-              (subst (λ (z : ℕ). Contains (view q).seen (Stood z f)) (sym reads.anchor_is) c) (v ∙ sym reads.version_is);
-          stays = stays;
-        }
-
-        -- its writer gave up, and the pass keeps that for the tab
-        module _ (w : Pass C) (moves : DraftMoves t (halted_draft (draft_at q.desks t)) q w) (halted : epoch.stage ≡ Stage.Halted) where
-          same_view : view w ≡ view q
-          same_view = drafted_view t _ q w moves
-
-          draft_is : draft_at w.desks t ≡ halted_draft (draft_at q.desks t)
-          draft_is = ap (λ (ds : List Desk). draft_at ds t) moves.desks ∙ draft_same q.desks t _ (let n = q.nine_desks in let b = reads.below in omega arith)
-
-          buffer_is : buffer_at w.desks t ≡ buffer_at q.desks t
-          buffer_is = ap (λ (ds : List Desk). buffer_at ds t) moves.desks ∙ buffer_drafted q.desks t t _
-
-          held_is : held_at w.desks t ≡ held_at p.desks t
-          held_is = ap (λ (d : Draft). d.held) draft_is ∙ held1
-
-          kept_is : kept_at w.desks t ≡ kept_at p.desks t
-          kept_is = (λ i. take (draft_is i).held (buffer_is i)) ∙ kept1
-
-          sees_it : SeesHalted e (view w)
-          sees_it = record {
-            epoch = epoch_number epoch;
-            version_is = version_of-epoch_number epoch ∙ (waits w same_view).version_is;
-            halted = stage_of-epoch_number epoch ∙ ap stage_number halted;
-            seen = (waits w same_view).fresh.seen;
-          }
-
-          stays_stopped : ReadsAs tells state offers s w t (halting e)
-          stays_stopped = record {
-            own = drafted_own tells state offers s t _ q w follows.own moves;
-            below = reads.below;
-            reader = reader1;
-            is = ap (λ (v : View (List ℕ)). tab_at v t) same_view ∙ tab1;
-            idle = reads.idle;
-            anchor_is = reads.anchor_is;
-            version_is = reads.version_is;
-            place_is = reads.place_is;
-            offer_seen = subst (λ (v : View (List ℕ)). Contains v.seen (Named e.anchor e.version Offer e.offer)) (sym same_view) (seen1 _ reads.offer_seen);
-            inside = reads.inside;
-            at_end = λ none some. absurd (some_none found.linked.slot none);
-            wanted = λ f. kept_is ∙ reads.wanted f;
-            held = λ f. subst (λ (n : ℕ). n ≤ g.slot) (sym held_is) (reads.held f);
-            given = λ f some. let h = reads.given f some in (subst (λ (n : ℕ). 0 < n) (sym held_is) h.0, h.1);
-            other = λ f. let h = reads.other f in (h.0, held_is ∙ h.1);
-            halted = ap (λ (d : Draft). d.is_halted) draft_is;
-            sees = λ f. (not_turned known, sees_it);
-          }
-
-          is_halted : Gave tells state offers s t p e before after w More.Halted
-          is_halted = inr record { epoch = epoch; waits = waits w same_view; halted = halted; stays = stays_stopped }
-
-        pub gave_none : (w : Pass C) (r : More) → ToldUnwritten t epoch q w r → Gave tells state offers s t p e before after w r
-        gave_none w r (inl k) = subst (λ (z : Pass C). Gave tells state offers s t p e before after z r) (sym k.still)
-            (subst (Gave tells state offers s t p e before after q) (sym k.answer_is) (not_yet k.grows))
-        gave_none w r (inr k) = subst (Gave tells state offers s t p e before after w) (sym k.answer_is) (is_halted w k.keeps
-            (⊎_elim (λ (a : epoch.stage ≡ Stage.Appending). absurd (k.ended a)) (λ (h : epoch.stage ≡ Stage.Halted). h)
-            (unwritten.grows_or_halted g t (view p) (view q) epoch (pass_of p) le reads.reader reads.is found0)))
+      pub gave_none : (0 < e.place → 0 < held_at p.desks t) → (before after : List ℕ) → after ≡ before → (r : More) → (epoch.stage ≡ Stage.Appending → r ≡ More.NotYet epoch) → (epoch.stage ≢ Stage.Appending → r ≡ More.Halted) → Gave tells state offers s t p e before after q r
+      gave_none known before after same r grows halted = ⊎_elim
+          (λ (h : epoch.stage ≡ Stage.Appending). subst (Gave tells state offers s t p e before after q) (sym (grows h)) record {
+            waits = waits known before after same;
+            grows = h;
+            stages = λ f c v. unwritten.none_later g t (view p) (view q) epoch (pass_of p) le reads.reader reads.is found0 h f (subst (λ (z : ℕ). Contains (view q).seen (Stood z f)) (sym reads.anchor_is) c) (v ∙ sym reads.version_is);
+          })
+          (λ (h : epoch.stage ≡ Stage.Halted). subst (Gave tells state offers s t p e before after q) (sym (halted (λ a. halted_appending (sym h ∙ a)))) record { epoch = epoch; waits = waits known before after same; halted = h })
+          (unwritten.grows_or_halted g t (view p) (view q) epoch (pass_of p) le reads.reader reads.is found0)
 
     -- Where it is written, and the slot was read, or not.
 
@@ -294,19 +223,15 @@ module _ {C O : Type 0} (tells : Bool) (state : C → CellState) (offers : O →
       held2 : held_at u.desks t ≡ held_at p.desks t
       held2 = λ i. (draft2 i).held
 
-      halted2 : halted_at u.desks t ≡ halted_at p.desks t
-      halted2 = λ i. (draft2 i).is_halted
-
       seen2 : (x : Sight) → Contains (view p).seen x → Contains (view u).seen x
       seen2 x c = read_sees g t (view q) (view u) done cell x read (seen1 x c)
 
     -- Where it could not be read.
 
     module _ (written : link ≢ NotWritten) (u : Pass C) (cell : Cell (List ℕ)) (read : ReadSlot g t (view q) false cell (view u)) (reading : FollowsReading tells state offers s t q u) where
-      pub fails : (0 < e.place → 0 < held_at p.desks t) → e.is_halted ≡ false → (before after : List ℕ) → after ≡ before → Fails tells state offers s t p e before after u
-      fails known going before after same = record {
+      pub fails : (0 < e.place → 0 < held_at p.desks t) → (before after : List ℕ) → after ≡ before → Fails tells state offers s t p e before after u
+      fails known before after same = record {
         was = not_turned known;
-        going = going;
         tried = record { epoch = epoch; link = link; middle = view q; found = found; written = written; cell = cell; read = read };
         stays = record {
           own = reading.own;
@@ -324,8 +249,6 @@ module _ {C O : Type 0} (tells : Bool) (state : C → CellState) (offers : O →
           held = λ f. subst (λ (n : ℕ). n ≤ g.slot) (sym (held2 written u false cell read reading)) (reads.held f);
           given = λ f some. let h = reads.given f some in (subst (λ (n : ℕ). 0 < n) (sym (held2 written u false cell read reading)) h.0, h.1);
           other = λ f. let h = reads.other f in (h.0, held2 written u false cell read reading ∙ h.1);
-          halted = halted2 written u false cell read reading ∙ reads.halted;
-          sees = λ f. absurd (false≢true (sym going ∙ f));
         };
         same = same;
       }
@@ -353,14 +276,13 @@ module _ {C O : Type 0} (tells : Bool) (state : C → CellState) (offers : O →
       last2 h = subst (λ (z : ℕ × ℕ). z.0 + 1 ≡ pieces_of g z.1 e.offer) (λ i. (place2 i, anchor2 i))
           (piece_last g holds.state e.offer (record read.reader { turn = Has (new_hold read.slot cell) }) (new_hold read.slot cell) holds.reads (ap Reader.found (is_reader written u true cell read reading) ∙ h))
 
-      module _ (known : 0 < e.place → 0 < held_at p.desks t) (going : e.is_halted ≡ false) (dec : IsTrue tells → HoldsFile g → Decoded g e.anchor e.offer e.place (buffer_at u.desks inner)) where
+      module _ (known : 0 < e.place → 0 < held_at p.desks t) (dec : IsTrue tells → HoldsFile g → Decoded g e.anchor e.offer e.place (buffer_at u.desks inner)) where
         -- of the tab one place on, where its URL is kept, or forgotten
         module _ (w : Pass C) (own : IsOf tells state offers s w) (same_view : view w ≡ view u) where
           moved : (e' : Standing) → e'.anchor ≡ e.anchor → e'.version ≡ e.version → e'.offer ≡ e.offer → e'.place ≡ e.place + 1
               → (e'.is_other ≡ false → kept_at w.desks t ≡ kept_of g.slot e'.url) → (e'.is_other ≡ false → held_at w.desks t ≤ g.slot)
-              → (e'.is_other ≡ false → 0 < e'.place → (0 < held_at w.desks t) × HasResponse tells state offers s e') → (e'.is_other ≡ true → (0 < e'.place) × (held_at w.desks t ≡ 0))
-              → e'.is_halted ≡ e.is_halted → halted_at w.desks t ≡ halted_at p.desks t → ReadsAs tells state offers s w t e'
-          moved e' a v o pl wanted held given other same_halted kept_halted = record {
+              → (e'.is_other ≡ false → 0 < e'.place → (0 < held_at w.desks t) × HasResponse tells state offers s e') → (e'.is_other ≡ true → (0 < e'.place) × (held_at w.desks t ≡ 0)) → ReadsAs tells state offers s w t e'
+          moved e' a v o pl wanted held given other = record {
             own = own;
             below = reads.below;
             reader = went_on reader1;
@@ -377,8 +299,6 @@ module _ {C O : Type 0} (tells : Bool) (state : C → CellState) (offers : O →
             held = held;
             given = given;
             other = other;
-            halted = kept_halted ∙ reads.halted ∙ sym same_halted;
-            sees = λ f. absurd (false≢true (sym going ∙ sym same_halted ∙ f));
           }
 
         abbrev image : List ℕ
@@ -405,8 +325,7 @@ module _ {C O : Type 0} (tells : Bool) (state : C → CellState) (offers : O →
               (λ f. kept2 written u true cell read reading ∙ reads.wanted f)
               (λ f. subst (λ (n : ℕ). n ≤ g.slot) (sym (held2 written u true cell read reading)) (reads.held f))
               (λ f some. (subst (λ (n : ℕ). 0 < n) (sym (held2 written u true cell read reading)) given_held, has_response f))
-              (λ f. ((omega arith), held2 written u true cell read reading ∙ (reads.other f).1)) refl
-              (halted2 written u true cell read reading)
+              (λ f. ((omega arith), held2 written u true cell read reading ∙ (reads.other f).1))
 
         tried : (w : Pass C) → view w ≡ view u → (before after : List ℕ) → HasTried tells state offers s t p e before after w true
         tried w same_view before after = record {
@@ -427,7 +346,6 @@ module _ {C O : Type 0} (tells : Bool) (state : C → CellState) (offers : O →
           piece_at : IsPiece tells state offers s t p e before after u count
           piece_at = record {
             was = not_turned known;
-            going = going;
             tried = tried u refl before after;
             found = is_of;
             given = d.bytes ∙ ap (body_of image) at;
@@ -463,19 +381,14 @@ module _ {C O : Type 0} (tells : Bool) (state : C → CellState) (offers : O →
           forgot_held : held_at w.desks t ≡ 0
           forgot_held = ap (λ (ds : List Desk). held_at ds t) d.forgot.desks ∙ ap (λ (z : Draft). z.held) (draft_same u.desks t _ (let n = u.nine_desks in let b = reads.below in omega arith))
 
-          forgot_halted : halted_at w.desks t ≡ halted_at p.desks t
-          forgot_halted = ap (λ (ds : List Desk). halted_at ds t) d.forgot.desks ∙ ap (λ (z : Draft). z.is_halted) (draft_same u.desks t _ (let n = u.nine_desks in let b = reads.below in omega arith))
-              ∙ halted2 written u true cell read reading
-
           turns_out : TurnsOut tells state offers s t p e before after w
           turns_out = record {
             was = not_turned known;
-            going = going;
             tried = tried w (drafted_view t _ u w d.forgot) before after;
             other = λ h. not_of (subst (λ (x : List ℕ). IsOfEntry x g.setting.slots e.place (kept_at p.desks t)) same_image h);
             url = λ told file. (at_first told file, other_url told file);
             reads = moved w (drafted_own tells state offers s t _ u w reading.own d.forgot) (drafted_view t _ u w d.forgot) (turned e) refl refl refl refl
-                (λ f. absurd (false≢true (sym f))) (λ f. absurd (false≢true (sym f))) (λ f. absurd (false≢true (sym f))) (λ f. ((omega arith), forgot_held)) refl forgot_halted;
+                (λ f. absurd (false≢true (sym f))) (λ f. absurd (false≢true (sym f))) (λ f. absurd (false≢true (sym f))) (λ f. ((omega arith), forgot_held));
             same = d.same;
           }
 

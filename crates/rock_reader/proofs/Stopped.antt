@@ -1,4 +1,4 @@
--- A tab that reads stays where it came to its end, where it turned from its entry, and where its writer gave up.
+-- A tab that reads stays where it came to its end, and where it turned from its entry.
 use Rattle.std.proofs.Common.{Bool, List, None, Option, Some, ap, arith, cond, ne_eqb, false, get_or, get_or-set_same, refl, subst, sym, true, ◌+◌, ◌-◌, ◌<◌, ◌==◌, ◌∙◌, ◌≡◌, ◌⊎◌, inl, inr, ℕ}
 use Rattle.lock_word.specs.declared.epoch.Epoch.{Epoch}
 use Rattle.link_word.specs.declared.link.Link.{Link}
@@ -52,7 +52,7 @@ module _ {X : Type 0} (g : Ground X) (t : ℕ) (v : View X) (r : Reader X) (is :
 
 module _ {C O : Type 0} (tells : Bool) (state : C → CellState) (offers : O → Offers) (s : Store C O) (t : ℕ) (p : Pass C) (e : Standing) (reads : ReadsAs tells state offers s p t e) (before after : List ℕ) (q : Pass C) where
   -- a tab that was given all is answered so again
-  module _ (was : e.is_other ≡ false) (going : e.is_halted ≡ false) (some : 0 < e.place) (ended : OfReader (λ r. r.slot ≡ None) (tab_at (view p) t)) where
+  module _ (was : e.is_other ≡ false) (some : 0 < e.place) (ended : OfReader (λ r. r.slot ≡ None) (tab_at (view p) t)) where
     abbrev g : Ground (List ℕ)
     g = basis tells state offers s
 
@@ -63,8 +63,7 @@ module _ {C O : Type 0} (tells : Bool) (state : C → CellState) (offers : O →
     stays_at_end (more.Piece count) h = absurd (never h.tried.epoch h.tried.link h.tried.middle h.tried.found)
     stays_at_end (more.NotYet epoch) h = absurd (never epoch _ (view q) h.waits.found)
     stays_at_end more.End h = refl
-    stays_at_end more.Halted (inl h) = absurd (both e.is_halted h.was going)
-    stays_at_end more.Halted (inr h) = absurd (never h.epoch _ (view q) h.waits.found)
+    stays_at_end more.Halted h = absurd (never h.epoch _ (view q) h.waits.found)
     stays_at_end more.OtherUrl (inl h) = absurd (both e.is_other h.was was)
     stays_at_end more.OtherUrl (inr h) = absurd (never h.tried.epoch h.tried.link h.tried.middle h.tried.found)
     stays_at_end more.Fault h = absurd (never h.tried.epoch h.tried.link h.tried.middle h.tried.found)
@@ -74,18 +73,6 @@ module _ {C O : Type 0} (tells : Bool) (state : C → CellState) (offers : O →
   stays_turned other (more.Piece count) h = absurd (both e.is_other other h.was)
   stays_turned other (more.NotYet epoch) h = absurd (both e.is_other other h.waits.was)
   stays_turned other more.End h = absurd (both e.is_other other h.was)
-  stays_turned other more.Halted (inl h) = absurd (both e.is_other other (reads.sees h.was).0)
-  stays_turned other more.Halted (inr h) = absurd (both e.is_other other h.waits.was)
+  stays_turned other more.Halted h = absurd (both e.is_other other h.waits.was)
   stays_turned other more.OtherUrl h = refl
   stays_turned other more.Fault h = absurd (both e.is_other other h.was)
-
-  -- and where its writer gave up it is answered so again, and is given nothing
-  pub stays_halted : e.is_halted ≡ true → (answer : More) → Gave tells state offers s t p e before after q answer → (answer ≡ more.Halted) × (after ≡ before)
-  stays_halted halted (more.Piece count) h = absurd (both e.is_halted halted h.going)
-  stays_halted halted (more.NotYet epoch) h = absurd (both e.is_halted halted h.waits.going)
-  stays_halted halted more.End h = absurd (both e.is_halted halted h.going)
-  stays_halted halted more.Halted (inl h) = (refl, h.same)
-  stays_halted halted more.Halted (inr h) = absurd (both e.is_halted halted h.waits.going)
-  stays_halted halted more.OtherUrl (inl h) = absurd (both e.is_halted halted h.going)
-  stays_halted halted more.OtherUrl (inr h) = absurd (both e.is_halted halted h.going)
-  stays_halted halted more.Fault h = absurd (both e.is_halted halted h.going)

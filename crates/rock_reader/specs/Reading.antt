@@ -1,6 +1,6 @@
 -- What a tab that reads is to its caller, and what reading on comes to.
 use Rattle.std.specs.Prelude.{Bool, Contains, IsTrue, List, None, drop, false, length, take, true, ◌+◌, ◌<◌, ◌≡◌, ◌≢◌, ◌≤◌, ◌⊎◌, ℕ}
-use Rattle.lock_word.specs.Words.{epoch_number, epoch_of, stage_number, stage_of, version_of}
+use Rattle.lock_word.specs.Words.{epoch_number, epoch_of, stage_of, version_of}
 use Rattle.lock_word.specs.declared.epoch.Epoch.{Epoch}
 use Rattle.lock_word.specs.declared.stage.Stage.{Stage}
 use Rattle.link_word.specs.declared.link.Link.{Link}
@@ -28,12 +28,12 @@ use Rattle.slice_chain.specs.Links.{Linked}
 use Rattle.slice_chain.specs.Reads.{ReadSlot}
 use Rattle.rock_reader.specs.Bodies.{IsOfEntry, body_of}
 use Rattle.rock_reader.specs.Responses.{HoldsFile, IsResponse, body_at, pieces_of}
-use Rattle.rock_reader.specs.Wanted.{halted_at, halted_draft, held_at, kept_at, kept_of}
+use Rattle.rock_reader.specs.Wanted.{held_at, kept_at, kept_of}
 use Rattle.rock_reader.specs.declared.answer.More.{More}
 use Rattle.rock_reader.specs.declared.answer.More.TheVariants.{End, Fault, Halted, NotYet, OtherUrl, Piece}
 
--- Where a tab is that reads: its anchor, the version and the offer of its entry, how many slots it was given, the URL that it wants,
--- whether a slot was found that is not of an entry of that URL, and whether a call answered that its writer gave up.
+-- Where a tab is that reads: its anchor, the version and the offer of its entry, how many slots it was given, the URL that it wants, and
+-- whether a slot was found that is not of an entry of that URL.
 pub record Standing : Type 0 where
   pub anchor : ℕ
   pub version : ℕ
@@ -41,19 +41,10 @@ pub record Standing : Type 0 where
   pub place : ℕ
   pub url : List ℕ
   pub is_other : Bool
-  pub is_halted : Bool
 
 -- that of a tab that was just opened
 abbrev pub newly : (anchor version offer : ℕ) (url : List ℕ) → Standing
-newly anchor version offer url = record {
-  anchor = anchor;
-  version = version;
-  offer = offer;
-  place = 0;
-  url = url;
-  is_other = false;
-  is_halted = false;
-}
+newly anchor version offer url = record { anchor = anchor; version = version; offer = offer; place = 0; url = url; is_other = false }
 
 -- one place on
 abbrev pub onward : Standing → Standing
@@ -61,17 +52,6 @@ onward e = record e { place = e.place + 1 }
 
 abbrev pub turned : Standing → Standing
 turned e = record e { place = e.place + 1; is_other = true }
-
--- its writer gave up
-abbrev pub halting : Standing → Standing
-halting e = record e { is_halted = true }
-
--- the pass has seen the entry at HALTED
-pub record SeesHalted {X : Type 0} (e : Standing) (v : View X) : Type 0 where
-  pub epoch : ℕ
-  pub version_is : version_of epoch ≡ e.version
-  pub halted : stage_of epoch ≡ stage_number Stage.Halted
-  pub seen : Contains v.seen (Stood e.anchor epoch)
 
 module _ {C O : Type 0} (tells : Bool) (state : C → CellState) (offers : O → Offers) where
   -- Where cells tell and the opening's entries were complete, the offer has a response under the wanted URL.
@@ -95,8 +75,6 @@ module _ {C O : Type 0} (tells : Bool) (state : C → CellState) (offers : O →
     pub held : e.is_other ≡ false → held_at p.desks t ≤ (basis tells state offers s).slot
     pub given : e.is_other ≡ false → 0 < e.place → (0 < held_at p.desks t) × HasResponse s e
     pub other : e.is_other ≡ true → (0 < e.place) × (held_at p.desks t ≡ 0)
-    pub halted : halted_at p.desks t ≡ e.is_halted
-    pub sees : e.is_halted ≡ true → (e.is_other ≡ false) × SeesHalted e (view p)
 
   -- The tab reads without a turn, and there is room for what a slot may add to a body.
   pub record MayRead (s : Store C O) (p : Pass C) (t room : ℕ) : Type 0 where
@@ -115,12 +93,6 @@ module _ {X : Type 0} (g : Ground X) (t : ℕ) where
     pub epoch_is : epoch_of word ≡ epoch_number epoch
     pub linked : Linked g t link looked w
 
-  -- the anchor of the tab was looked at, and nothing else
-  pub record LookedAgain (epoch : Epoch) (v w : View X) : Type 0 where
-    pub word : ℕ
-    pub look : Steps g v (Look (anchor_of (tab_at v t))) word w
-    pub epoch_is : epoch_of word ≡ epoch_number epoch
-
 -- A slot that was read is in the buffer for reading. It is of an entry of the URL that the tab wants, and what it adds to the body was given,
 -- or it is not, and the tab wants none any more.
 pub record GaveBody {C : Type 0} (t slots place : ℕ) (p : Pass C) (before after : List ℕ) (q : Pass C) (count : ℕ) : Type 0 where
@@ -135,21 +107,6 @@ pub record GaveNone {C : Type 0} (t slots place : ℕ) (p : Pass C) (before afte
   pub forgot : DraftMoves t (record (draft_at p.desks t) { held = 0 }) p q
   pub same : after ≡ before
 
--- What a link that is not written means, by the epoch that was found before it. An entry that grows may get it still, and then the pass is
--- as it was. An entry that was given up will not, and the pass keeps that for the tab.
-pub record StillGrows {C : Type 0} (epoch : Epoch) (p q : Pass C) (answer : More) : Type 0 where
-  pub grows : epoch.stage ≡ Stage.Appending
-  pub answer_is : answer ≡ NotYet epoch
-  pub still : q ≡ p
-
-pub record GrowsNoMore {C : Type 0} (t : ℕ) (epoch : Epoch) (p q : Pass C) (answer : More) : Type 0 where
-  pub ended : epoch.stage ≢ Stage.Appending
-  pub answer_is : answer ≡ Halted
-  pub keeps : DraftMoves t (halted_draft (draft_at p.desks t)) p q
-
-abbrev pub ToldUnwritten : {C : Type 0} → (t : ℕ) → Epoch → Pass C → Pass C → More → Type 0
-ToldUnwritten t epoch p q answer = StillGrows epoch p q answer ⊎ GrowsNoMore t epoch p q answer
-
 abbrev pub Delivered : {C : Type 0} → (t slots place : ℕ) → Pass C → (before after : List ℕ) → Pass C → More → Type 0
 Delivered t slots place p before after q (Piece count) = GaveBody t slots place p before after q count
 Delivered t slots place p before after q OtherUrl = GaveNone t slots place p before after q
@@ -159,15 +116,15 @@ module _ {C O : Type 0} (tells : Bool) (state : C → CellState) (offers : O →
   abbrev g : Ground (List ℕ)
   g = basis tells state offers s
 
-  -- No slot was found before that is of another entry, nor that the writer gave up, and the link at its place was found not written, behind
-  -- a look that found this epoch. The pass has seen no more published slots than the tab was given.
+  -- No slot was found before that is of another entry, and the link at its place was found not written, behind a look that found this epoch.
+  -- The pass has seen no more published slots than the tab was given.
   pub record Waits (epoch : Epoch) : Type 0 where
     pub was : e.is_other ≡ false
-    pub going : e.is_halted ≡ false
     pub found : LookedAt g t epoch NotWritten (view p) (view q)
     pub fresh : IsFresh e.anchor (epoch_number epoch) (view p) (view q)
     pub version_is : epoch.version ≡ e.version
     pub published : (n : ℕ) → Contains (view q).seen (Published e.anchor e.version n) → n ≤ e.place
+    pub stays : ReadsAs tells state offers s q t e
     pub same : after ≡ before
 
   -- the entry grows, and the pass has seen no later stage of it
@@ -175,25 +132,12 @@ module _ {C O : Type 0} (tells : Bool) (state : C → CellState) (offers : O →
     pub waits : Waits epoch
     pub grows : epoch.stage ≡ Stage.Appending
     pub stages : (f : ℕ) → Contains (view q).seen (Stood e.anchor f) → version_of f ≡ e.version → stage_of f ≤ 2
-    pub stays : ReadsAs tells state offers s q t e
 
-  -- Its writer gave up. Each later call comes to that again.
+  -- its writer gave up
   pub record IsHalted : Type 0 where
     pub epoch : Epoch
     pub waits : Waits epoch
     pub halted : epoch.stage ≡ Stage.Halted
-    pub stays : ReadsAs tells state offers s q t (halting e)
-
-  -- A call answered before that its writer gave up. This one looks at the anchor, finds the same, and gives nothing.
-  pub record StaysHalted : Type 0 where
-    pub was : e.is_halted ≡ true
-    pub epoch : Epoch
-    pub found : LookedAgain g t epoch (view p) (view q)
-    pub fresh : IsFresh e.anchor (epoch_number epoch) (view p) (view q)
-    pub version_is : epoch.version ≡ e.version
-    pub halted : epoch.stage ≡ Stage.Halted
-    pub stays : ReadsAs tells state offers s q t e
-    pub same : after ≡ before
 
   -- the link at its place was found written, and the slot read, or not
   pub record HasTried (done : Bool) : Type 0 where
@@ -209,7 +153,6 @@ module _ {C O : Type 0} (tells : Bool) (state : C → CellState) (offers : O →
   -- of the offer's response adds.
   pub record IsPiece (count : ℕ) : Type 0 where
     pub was : e.is_other ≡ false
-    pub going : e.is_halted ≡ false
     pub tried : HasTried true
     pub found : IsOfEntry (buffer_at q.desks inner) g.setting.slots e.place (kept_at p.desks t)
     pub given : take count after ≡ body_of (buffer_at q.desks inner) e.place  -- the part of the body in what the station read
@@ -221,7 +164,6 @@ module _ {C O : Type 0} (tells : Bool) (state : C → CellState) (offers : O →
   -- A slot was read that is not of such an entry. Where cells tell it was the first one, and the offer's response has another URL.
   pub record TurnsOut : Type 0 where
     pub was : e.is_other ≡ false
-    pub going : e.is_halted ≡ false
     pub tried : HasTried true
     pub other : IsOfEntry (buffer_at q.desks inner) g.setting.slots e.place (kept_at p.desks t) → ⊥
     pub url : IsTrue tells → HoldsFile g → (e.place ≡ 0) × ((url body : List ℕ) → IsResponse g e.anchor e.offer url body → url ≢ e.url)
@@ -231,7 +173,6 @@ module _ {C O : Type 0} (tells : Bool) (state : C → CellState) (offers : O →
   -- one was found before, and nothing is done
   pub record StaysOther : Type 0 where
     pub was : e.is_other ≡ true
-    pub going : e.is_halted ≡ false
     pub still : q ≡ p
     pub same : after ≡ before
 
@@ -239,7 +180,6 @@ module _ {C O : Type 0} (tells : Bool) (state : C → CellState) (offers : O →
   -- this too.
   pub record IsAtEnd : Type 0 where
     pub was : e.is_other ≡ false
-    pub going : e.is_halted ≡ false
     pub some : 0 < e.place
     pub all : e.place ≡ pieces_of g e.anchor e.offer
     pub ended : OfReader (λ r. r.slot ≡ None) (tab_at (view p) t)
@@ -249,7 +189,6 @@ module _ {C O : Type 0} (tells : Bool) (state : C → CellState) (offers : O →
   -- the slot could not be read
   pub record Fails : Type 0 where
     pub was : e.is_other ≡ false
-    pub going : e.is_halted ≡ false
     pub tried : HasTried false
     pub stays : ReadsAs tells state offers s q t e
     pub same : after ≡ before
@@ -259,6 +198,6 @@ module _ {C O : Type 0} (tells : Bool) (state : C → CellState) (offers : O →
   Gave (Piece count) = IsPiece count
   Gave (NotYet epoch) = IsNotYet epoch
   Gave End = IsAtEnd
-  Gave Halted = StaysHalted ⊎ IsHalted
+  Gave Halted = IsHalted
   Gave OtherUrl = StaysOther ⊎ TurnsOut
   Gave Fault = Fails

@@ -1,5 +1,5 @@
--- What a pass keeps of a reading tab: the URL that it wants, and whether its entry was found halted.
-use Rattle.std.specs.Prelude.{Bool, List, [], cond, false, length, nat_le, slice_index, take, true, ◌+◌, ◌≡◌, ◌≢◌, ◌≤◌, ℕ}
+-- The URL that a reading tab wants, as its pass keeps it.
+use Rattle.std.specs.Prelude.{Bool, List, [], cond, length, nat_le, slice_index, take, ◌+◌, ◌≡◌, ◌≢◌, ◌≤◌, ℕ}
 use Rattle.rock_disk.specs.Cell.{CellState}
 use Rattle.entry_cut.specs.Content.{front_size}
 use Rattle.core_model.specs.Tabs.{inner}
@@ -20,19 +20,11 @@ held_at desks t = (draft_at desks t).held
 abbrev pub kept_at : List Desk → ℕ → List ℕ
 kept_at desks t = take (held_at desks t) (buffer_at desks t)
 
--- whether its entry was found halted
-abbrev pub halted_at : List Desk → ℕ → Bool
-halted_at desks t = (draft_at desks t).is_halted
-
--- it was found so
-abbrev pub halted_draft : Draft → Draft
-halted_draft d = record d { is_halted = true }
-
 -- Of a URL that leaves no room for itself in a first slot nothing is kept: no entry has it.
 abbrev pub kept_of : (slot : ℕ) → List ℕ → List ℕ
 kept_of slot url = cond (nat_le (length url + front_size) slot) url []
 
--- The URL is kept for a tab, and that its entry was not found halted. All else of the pass is as it was.
+-- the URL is kept for a tab, and all else of the pass is as it was
 pub record KeepsUrl {C : Type 0} (slot t : ℕ) (url : List ℕ) (p q : Pass C) : Type 0 where
   pub seat : q.seat ≡ p.seat
   pub tabs : q.tabs ≡ p.tabs
@@ -44,7 +36,6 @@ pub record KeepsUrl {C : Type 0} (slot t : ℕ) (url : List ℕ) (p q : Pass C) 
   pub desks : q.desks ≡ with_draft_at (with_buffer_at p.desks t bytes) t draft
   pub kept : kept_at q.desks t ≡ kept_of slot url
   pub within : held_at q.desks t ≤ slot
-  pub going : halted_at q.desks t ≡ false
 
 -- what a tab works on is as it was
 abbrev pub SameDesk : List Desk → List Desk → ℕ → Type 0

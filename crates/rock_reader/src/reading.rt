@@ -1,24 +1,23 @@
 // What has come of an entry is read, slot by slot.
 ghost use Rattle.core_model.specs.Tabs.{OfReader, anchor_of, inner, tab_at};
-ghost use Rattle.core_model.specs.declared.tab.Turn.TheVariants.{NoTurn};
 ghost use Rattle.link_word.specs.declared.link.Link.TheVariants.{NotWritten};
 ghost use Rattle.lock_word.specs.Words.{epoch_number};
 ghost use Rattle.store_rule.specs.Calls.{Follows, IsFresh};
 ghost use Rattle.store_rule.specs.Quiet.{Quiet};
 ghost use Rattle.rock_io.specs.Faults.{Rose};
 ghost use Rattle.rock_reader.specs.Bodies.{IsOfEntry, body_of};
-ghost use Rattle.rock_reader.specs.Reading.{Delivered, Gave, LookedAgain, LookedAt, MayRead, ReadsAs, Standing, ToldUnwritten};
-ghost use Rattle.rock_reader.specs.Wanted.{FollowsReader, halted_at, held_at, kept_at};
+ghost use Rattle.rock_reader.specs.Reading.{Delivered, Gave, LookedAt, MayRead, ReadsAs, Standing};
+ghost use Rattle.rock_reader.specs.Wanted.{FollowsReader, held_at, kept_at};
 ghost use Rattle.slice_chain.specs.Links.{MayLocate};
 ghost use Rattle.slot_cell.specs.declared.header.TheConstants.{HEADER_SIZE};
-ghost use Rattle.std.specs.Prelude.{None, ◌+◌, ◌≡◌, ◌≢◌, ◌<◌, ◌≤◌, ◌↔◌, ◌⊎◌, ◌++◌, drop, false, length, take, true};
+ghost use Rattle.std.specs.Prelude.{None, ◌+◌, ◌≡◌, ◌≢◌, ◌<◌, ◌≤◌, ◌↔◌, ◌⊎◌, ◌++◌, drop, length, take};
 ghost use Rattle.tab_states.specs.Desks.{buffer_at, draft_at};
-ghost use Rattle.store_rule.specs.Passes.{IsOf, basis, view};
+ghost use Rattle.store_rule.specs.Passes.{basis, view};
 
 use crate::answer::More;
 use crate::bodies::body_in;
 use crate::laws::slots_are_small;
-use crate::wanted::{forget_url, keep_halted, kept_url};
+use crate::wanted::{forget_url, kept_url};
 use core_model::INNER_TAB;
 use entry_cut::pieces_make_the_content;
 use link_word::Link;
@@ -38,8 +37,6 @@ enum Known {
     End,
     /// A slot was read that is not of the wanted entry.
     Other,
-    /// It was found that the writer gave up.
-    Halted,
 }
 
 /// What was found of the slot at a reading tab's place.
@@ -53,8 +50,7 @@ struct Found {
 /// slot has the metadata too, whose URL is compared with the wanted one.
 ///
 /// It looks at the anchor first, and then at the link of the slot. It waits for the turn at one cell, and for
-/// nothing else. Once it has answered that the writer gave up, each later call answers so: it looks at the
-/// anchor, and no more.
+/// nothing else.
 pub fn more<R: Wait, C: Cell, O: Origin, St: Station<C = C>>(
     rt: &R,
     store: &Store<C, O>,
@@ -77,10 +73,6 @@ pub fn more<R: Wait, C: Cell, O: Origin, St: Station<C = C>>(
         Known::Slot => read_on(rt, store, pass, station, tab, out),
         Known::End => More::End,
         Known::Other => More::OtherUrl,
-        Known::Halted => {
-            look_again(store, pass, tab);
-            More::Halted
-        }
     }
 }
 
@@ -88,8 +80,6 @@ pub fn more<R: Wait, C: Cell, O: Origin, St: Station<C = C>>(
 fn known_of<C>(pass: &Pass<C>, tab: u8) -> Known
     requires below { tab < 9 }
     requires reads { OfReader (λ r. Unit {0}) (tab_at (view pass.now) tab) }
-    ensures halted { result ≡ Known.Halted → halted_at pass.now.desks tab ≡ true }
-    ensures going { result ≢ Known.Halted → halted_at pass.now.desks tab ≡ false }
     ensures slot { result ≡ Known.Slot → OfReader (λ r. (r.place ≡ 0) ⊎ ((r.slot ≢ None) × (0 < held_at pass.now.desks tab))) (tab_at (view pass.now) tab) }
     ensures end { result ≡ Known.End → OfReader (λ r. (0 < r.place) × (r.slot ≡ None) × (0 < held_at pass.now.desks tab)) (tab_at (view pass.now) tab) }
     ensures other { result ≡ Known.Other → OfReader (λ r. (0 < r.place) × (held_at pass.now.desks tab ≡ 0)) (tab_at (view pass.now) tab) }
@@ -97,9 +87,6 @@ fn known_of<C>(pass: &Pass<C>, tab: u8) -> Known
     let Some(reading) = pass.reading(tab) else {
         unreachable!()
     };
-    if pass.draft(tab).is_halted {
-        return Known::Halted;
-    }
     if reading.place == 0 {
         return Known::Slot;
     }
@@ -141,7 +128,6 @@ fn read_on<R: Wait, C: Cell, O: Origin, St: Station<C = C>>(
     requires may { MayRead C.tells C.state O.offers store.now pass.old tab (length out.old) }
     requires there { MayLocate C.tells C.state O.offers store.now pass.old tab }
     requires known { OfReader (λ r. 0 < r.place → 0 < held_at pass.old.desks tab) (tab_at (view pass.old) tab) }
-    requires going { halted_at pass.old.desks tab ≡ false }
     ensures gave { (e : Standing) → ReadsAs C.tells C.state O.offers store.now pass.old tab e
         → Gave C.tells C.state O.offers store.now tab pass.old e out.old out.new pass.new result }
     ensures others { FollowsReader C.tells C.state O.offers store.now tab pass.old pass.new }
@@ -156,7 +142,7 @@ fn read_on<R: Wait, C: Cell, O: Origin, St: Station<C = C>>(
     let place = place_of(pass, tab);
     let found = look_on(store, pass, tab);
     if let Link::NotWritten = found.link {
-        return unwritten(pass, tab, found.epoch);
+        return unwritten(found.epoch);
     }
     match read_slot(rt, store, pass, station, tab) {
         Ok(()) => give(store, pass, tab, place, out),
@@ -176,35 +162,16 @@ fn place_of<C>(pass: &Pass<C>, tab: u8) -> u32
     reading.place
 }
 
-// Looks at the anchor of a reading tab, and at nothing else.
-fn look_again<C: Cell, O: Origin>(store: &Store<C, O>, pass: &mut Pass<C>, tab: u8) -> Epoch
-    requires own { IsOf C.tells C.state O.offers store.now pass.old }
-    requires below { tab < inner }
-    requires reads { OfReader (λ r. r.turn ≡ NoTurn) (tab_at (view pass.old) tab) }
-    ensures looked { LookedAgain (basis C.tells C.state O.offers store.now) tab result (view pass.old) (view pass.new) }
-    ensures fresh { IsFresh (anchor_of (tab_at (view pass.old) tab)) (epoch_number result) (view pass.old) (view pass.new) }
-    ensures others { Follows C.tells C.state O.offers store.now tab pass.old pass.new }
-    ensures quiet { Quiet (view pass.old) (view pass.new) }
-    ensures tabs { (view pass.new).tabs ≡ (view pass.old).tabs }
-{
-    let anchor = pass.anchor(tab);
-    let word = look(store, pass, anchor);
-    word.epoch
-}
-
 // What an unwritten link means, by the epoch that was found before it: a growing entry may get
-// it still, and one that was given up will not, which the pass keeps.
-fn unwritten<C>(pass: &mut Pass<C>, tab: u8, epoch: Epoch) -> More
-    requires { tab < 9 }
-    ensures told { ToldUnwritten tab epoch pass.old pass.new result }
+// it still, and one that was given up will not.
+fn unwritten(epoch: Epoch) -> More
+    ensures grows { epoch.stage ≡ Stage.Appending → result ≡ More.NotYet epoch }
+    ensures halted { epoch.stage ≢ Stage.Appending → result ≡ More.Halted }
     ensures never { result ≢ More.Fault }
 {
     match epoch.stage {
         Stage::Appending => More::NotYet { epoch },
-        _ => {
-            keep_halted(pass, tab);
-            More::Halted
-        }
+        _ => More::Halted,
     }
 }
 

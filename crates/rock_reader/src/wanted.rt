@@ -1,6 +1,6 @@
-// What a pass keeps of a reading tab. The URL that it wants lies in the tab's buffer, which a tab that reads
-// needs for nothing else. How long it is stands in the tab's draft, and so does whether its entry was found halted.
-ghost use Rattle.rock_reader.specs.Wanted.{KeepsUrl, halted_draft, held_at, kept_at, kept_of};
+// The URL that a reading tab wants. Its pass keeps it in the tab's buffer, which a tab that reads needs for
+// nothing else, and how long it is in the tab's draft.
+ghost use Rattle.rock_reader.specs.Wanted.{KeepsUrl, held_at, kept_at, kept_of};
 ghost use Rattle.std.specs.Prelude.{length, take, ◌<◌, ◌≡◌, ◌≤◌};
 ghost use Rattle.store_rule.specs.Drafts.{DraftMoves};
 ghost use Rattle.tab_states.specs.Desks.{buffer_at, draft_at};
@@ -10,8 +10,7 @@ use store_rule::Pass;
 use swap_meta::META_SIZE;
 use tab_states::Draft;
 
-/// Keeps the URL that a tab wants, and that its entry was not found halted. Of a URL that leaves no room for
-/// itself in a first slot nothing is kept.
+/// Keeps the URL that a tab wants. Of one that leaves no room for itself in a first slot nothing is kept.
 pub(crate) fn keep_url<C>(pass: &mut Pass<C>, tab: u8, url: &[u8])
     requires below { tab < 9 }
     requires small { length (buffer_at pass.old.desks tab) < 4294967296 }
@@ -19,12 +18,7 @@ pub(crate) fn keep_url<C>(pass: &mut Pass<C>, tab: u8, url: &[u8])
 {
     let held = put_front(pass.buffer_mut(tab), url);
     let draft = pass.draft(tab);
-    let draft = Draft {
-        held,
-        is_halted: false,
-        ..draft
-    };
-    pass.set_draft(tab, draft);
+    pass.set_draft(tab, Draft { held, ..draft });
 }
 
 // Copies a URL that leaves room for itself to the front of a buffer, and answers how many bytes it is, or 0.
@@ -57,17 +51,4 @@ pub(crate) fn forget_url<C>(pass: &mut Pass<C>, tab: u8)
 {
     let draft = pass.draft(tab);
     pass.set_draft(tab, Draft { held: 0, ..draft });
-}
-
-/// Keeps that the entry which a tab reads was found halted.
-pub(crate) fn keep_halted<C>(pass: &mut Pass<C>, tab: u8)
-    requires { tab < 9 }
-    ensures { DraftMoves tab (halted_draft (draft_at pass.old.desks tab)) pass.old pass.new }
-{
-    let draft = pass.draft(tab);
-    let draft = Draft {
-        is_halted: true,
-        ..draft
-    };
-    pass.set_draft(tab, draft);
 }

@@ -49,7 +49,6 @@ pub(crate) fn start<C: Cell, O: Origin>(
         key: *key,
         held: held as u32,
         is_durable,
-        is_halted: false,
     };
     pass.set_draft(tab, draft);
 }

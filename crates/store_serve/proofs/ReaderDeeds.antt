@@ -18,7 +18,7 @@ use Rattle.store_rule.specs.Told.{Steps}
 use Rattle.rw_anchor.specs.declared.Left.{Left}
 use Rattle.rock_reader.specs.Closing.{LeftFreed, Parted}
 use Rattle.rock_reader.specs.Opening.{Accepted, Declined, FoundOther, OpenedEntry, Refused, TurnedAway}
-use Rattle.rock_reader.specs.Reading.{Gave, HasTried, LookedAgain, LookedAt, Standing, Waits}
+use Rattle.rock_reader.specs.Reading.{Gave, HasTried, LookedAt, Standing, Waits}
 use Rattle.rock_reader.specs.declared.answer.More.{More}
 use Rattle.rock_reader.specs.declared.answer.More.TheVariants.{End, Fault, Halted, NotYet, OtherUrl, Piece}
 use Rattle.store_serve.specs.Acting.{Acted}
@@ -60,9 +60,6 @@ module _ {X : Type 0} (g : Ground X) (t : ℕ) where
   looked_at : {P : Deed → Type 0} {epoch : Epoch} {link : Link} {v w : View X} → LookedAt g t epoch link v w → Acted None P v w
   looked_at h = on (quiet_step h.look refl refl) (linked g t h.linked)
 
-  looked_again : {P : Deed → Type 0} {epoch : Epoch} {v w : View X} → LookedAgain g t epoch v w → Acted None P v w
-  looked_again h = quiet_step h.look refl refl
-
 module _ {C O : Type 0} (tells : Bool) (state : C → CellState) (offers : O → Offers) (s : Store C O) (t : ℕ) (e : Standing) {P : Deed → Type 0} where
   waits : {p q : Pass C} {before after : List ℕ} {epoch : Epoch} → Waits tells state offers s t p e before after q epoch → Acted None P (view p) (view q)
   waits h = looked_at (basis tells state offers s) t h.found
@@ -74,8 +71,7 @@ module _ {C O : Type 0} (tells : Bool) (state : C → CellState) (offers : O →
   gave p before after q (Piece count) h = has_tried h.tried
   gave p before after q (NotYet epoch) h = waits h.waits
   gave p before after q End h = same (ap view h.still)
-  gave p before after q Halted (inl h) = looked_again (basis tells state offers s) t h.found
-  gave p before after q Halted (inr h) = waits h.waits
+  gave p before after q Halted h = waits h.waits
   gave p before after q OtherUrl (inl h) = same (ap view h.still)
   gave p before after q OtherUrl (inr h) = has_tried h.tried
   gave p before after q Fault h = has_tried h.tried

@@ -12,7 +12,7 @@ use Rattle.store_rule.specs.Passes.{basis, view}
 use Rattle.rw_anchor.specs.declared.Left.{Left}
 use Rattle.rock_reader.specs.Closing.{LeftFreed, Parted}
 use Rattle.rock_reader.specs.Opening.{Accepted, Declined, FoundOther, OpenedEntry, Refused, TurnedAway}
-use Rattle.rock_reader.specs.Reading.{Gave, HasTried, LookedAgain, LookedAt, Standing, Waits}
+use Rattle.rock_reader.specs.Reading.{Gave, HasTried, LookedAt, Standing, Waits}
 use Rattle.rock_reader.specs.declared.answer.More.{More}
 use Rattle.rock_reader.specs.declared.answer.More.TheVariants.{End, Fault, Halted, NotYet, OtherUrl, Piece}
 use Rattle.core_model.specs.Knowing.{KnowsAll}
@@ -50,9 +50,6 @@ module _ {X : Type 0} (g : Ground X) (t : ℕ) where
   looked_at : {epoch : Epoch} {link : Link} {v w : View X} → LookedAt g t epoch link v w → KnowsAll v w
   looked_at h = on (by_step h.look) (linked g t h.linked)
 
-  looked_again : {epoch : Epoch} {v w : View X} → LookedAgain g t epoch v w → KnowsAll v w
-  looked_again h = by_step h.look
-
 module _ {C O : Type 0} (tells : Bool) (state : C → CellState) (offers : O → Offers) (s : Store C O) (t : ℕ) (e : Standing) where
   waits : {p q : Pass C} {before after : List ℕ} {epoch : Epoch} → Waits tells state offers s t p e before after q epoch → KnowsAll (view p) (view q)
   waits h = looked_at (basis tells state offers s) t h.found
@@ -64,8 +61,7 @@ module _ {C O : Type 0} (tells : Bool) (state : C → CellState) (offers : O →
   gave p before after q (Piece count) h = has_tried h.tried
   gave p before after q (NotYet epoch) h = waits h.waits
   gave p before after q End h = same (ap view h.still)
-  gave p before after q Halted (inl h) = looked_again (basis tells state offers s) t h.found
-  gave p before after q Halted (inr h) = waits h.waits
+  gave p before after q Halted h = waits h.waits
   gave p before after q OtherUrl (inl h) = same (ap view h.still)
   gave p before after q OtherUrl (inr h) = has_tried h.tried
   gave p before after q Fault h = has_tried h.tried

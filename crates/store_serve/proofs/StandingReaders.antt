@@ -31,8 +31,6 @@ module _ {C O : Type 0} (tells : Bool) (state : C → CellState) (offers : O →
     held = λ is. subst (λ z. z ≤ (basis tells state offers s).slot) (sym held) (h.held is);
     given = λ is some. (subst (λ z. 0 < z) (sym held) (h.given is some).0, (h.given is some).1);
     other = λ is. ((h.other is).0, held ∙ (h.other is).1);
-    halted = ap Draft.is_halted desk.1 ∙ h.halted;
-    sees = λ is. ((h.sees is).0, let had = (h.sees is).1 in record { epoch = had.epoch; version_is = had.version_is; halted = had.halted; seen = keeps.seen _ had.seen });
   }
     where
       held : held_at q.desks t ≡ held_at p.desks t

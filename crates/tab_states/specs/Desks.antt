@@ -31,7 +31,7 @@ as_many (d ∷ ds) zero bytes = refl
 as_many (d ∷ ds) (suc at) bytes = ap suc (as_many ds at bytes)
 
 abbrev pub draft_at : List Desk → ℕ → Draft
-draft_at desks at = slice_index_or (map (λ (d : Desk). d.draft) desks) at record { key = replicate 16 0; held = 0; is_durable = false; is_halted = false }
+draft_at desks at = slice_index_or (map (λ (d : Desk). d.draft) desks) at record { key = replicate 16 0; held = 0; is_durable = false }
 
 abbrev pub with_draft_at : List Desk → ℕ → Draft → List Desk
 with_draft_at [] at draft = []

@@ -4,7 +4,7 @@ ghost use Rattle.std.specs.Prelude.{Some, length, slice_get, ◌<◌, ◌≡◌}
 use page_pool::Page;
 use std::marker::Model;
 
-/// What a tab that writes or reads has of its entry beside the buffer.
+/// What a tab that writes has of its entry beside the buffer.
 #[derive(Clone, Copy, Debug, PartialEq, Eq)]
 pub struct Draft {
     pub key: [u8; 16],
@@ -12,8 +12,6 @@ pub struct Draft {
     pub held: u32,
     /// Whether each slot of the entry is synced before it is published.
     pub is_durable: bool,
-    /// Whether a tab that reads found that its writer gave up, and nothing more behind what it was given.
-    pub is_halted: bool,
 }
 
 /// The draft of a tab that has written nothing yet.
@@ -21,7 +19,6 @@ pub const NO_DRAFT: Draft = Draft {
     key: [0; 16],
     held: 0,
     is_durable: false,
-    is_halted: false,
 };
 
 /// What a tab works on.

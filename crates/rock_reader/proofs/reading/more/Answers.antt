@@ -1,14 +1,11 @@
-use Rattle.std.proofs.Common.{List, ap, arith, get_or, inl, length, refl, ◌≡◌, ℕ}
-use Rattle.core_model.specs.Tabs.{inner, tab_at}
-use Rattle.core_model.specs.declared.tab.Tab.{Tab}
+use Rattle.std.proofs.Common.{arith, inl, length, refl, ◌≡◌}
+use Rattle.core_model.specs.Tabs.{tab_at}
 use Rattle.core_model.specs.declared.tab.Turn.TheVariants.{NoTurn}
 use Rattle.store_rule.specs.Passes.{view}
 use Rattle.rock_reader.specs.declared.answer.More.{More}
-use Rattle.rock_reader.specs.declared.reading.Known.{Known}
 use Rattle.rock_reader.proofs.Answering.{ended, has_held, may_locate, turned_out}
 use Rattle.rock_reader.proofs.Looking.{of_reader}
-use Rattle.rock_reader.proofs.ReaderFollows.{follows_looked, follows_still}
-use Rattle.rock_reader.proofs.StillHalted.{stays_given_up}
+use Rattle.rock_reader.proofs.ReaderFollows.{follows_still}
 use Rattle.store_rule.proofs.Quieting.{quiet_same}
 use Rattle.rock_reader.proofs.reading.more.Goals as goal
 
@@ -17,18 +14,6 @@ end_fault e = cc
 
 other_fault : More.OtherUrl ≡ More.Fault → ⊥
 other_fault e = cc
-
-halted_fault : More.Halted ≡ More.Fault → ⊥
-halted_fault e = cc
-
-slot_halted : Known.Slot ≡ Known.Halted → ⊥
-slot_halted e = cc
-
-end_halted : Known.End ≡ Known.Halted → ⊥
-end_halted e = cc
-
-other_halted : Known.Other ≡ Known.Halted → ⊥
-other_halted e = cc
 
 pub known_of-requires-clause-below : goal.known_of-requires-clause-below
 known_of-requires-clause-below g c = let b = c.requires.below in omega arith
@@ -64,7 +49,7 @@ pub returns-in-Slot-clause-unfailed : goal.returns-in-Slot-clause-unfailed
 returns-in-Slot-clause-unfailed g c = c.read_on.ensures.unfailed
 
 pub returns-in-End-clause-gave : goal.returns-in-End-clause-gave
-returns-in-End-clause-gave g c e reads = ended g.C.Cell.tells g.C.Cell.state g.O.Origin.offers c.args.store.now c.args.tab c.args.pass.now e reads (c.in-End.ensures.going (λ z. end_halted z)) c.args.out.now (c.in-End.ensures.end refl)
+returns-in-End-clause-gave g c e reads = ended g.C.Cell.tells g.C.Cell.state g.O.Origin.offers c.args.store.now c.args.tab c.args.pass.now e reads c.args.out.now (c.in-End.ensures.end refl)
 
 pub returns-in-End-clause-others : goal.returns-in-End-clause-others
 returns-in-End-clause-others g c = follows_still g.C.Cell.tells g.C.Cell.state g.O.Origin.offers c.args.store.now c.args.tab c.args.pass.now c.requires.own
@@ -82,7 +67,7 @@ pub returns-in-End-clause-unfailed : goal.returns-in-End-clause-unfailed
 returns-in-End-clause-unfailed g c ne = refl
 
 pub returns-in-Other-clause-gave : goal.returns-in-Other-clause-gave
-returns-in-Other-clause-gave g c e reads = inl (turned_out g.C.Cell.tells g.C.Cell.state g.O.Origin.offers c.args.store.now c.args.tab c.args.pass.now e reads (c.in-Other.ensures.going (λ z. other_halted z)) c.args.out.now (c.in-Other.ensures.other refl))
+returns-in-Other-clause-gave g c e reads = inl (turned_out g.C.Cell.tells g.C.Cell.state g.O.Origin.offers c.args.store.now c.args.tab c.args.pass.now e reads c.args.out.now (c.in-Other.ensures.other refl))
 
 pub returns-in-Other-clause-others : goal.returns-in-Other-clause-others
 returns-in-Other-clause-others g c = follows_still g.C.Cell.tells g.C.Cell.state g.O.Origin.offers c.args.store.now c.args.tab c.args.pass.now c.requires.own
@@ -107,37 +92,3 @@ returns-in-End-clause-quiet g c = quiet_same _ _ refl
 
 pub returns-in-Other-clause-quiet : goal.returns-in-Other-clause-quiet
 returns-in-Other-clause-quiet g c = quiet_same _ _ refl
-
-pub read_on-requires-clause-going : goal.read_on-requires-clause-going
-read_on-requires-clause-going g c = c.in-Slot.ensures.going (λ z. slot_halted z)
-
-pub look_again-requires-clause-own : goal.look_again-requires-clause-own
-look_again-requires-clause-own g c = c.requires.own
-
-pub look_again-requires-clause-below : goal.look_again-requires-clause-below
-look_again-requires-clause-below g c = c.requires.below
-
-pub look_again-requires-clause-reads : goal.look_again-requires-clause-reads
-look_again-requires-clause-reads g c = c.requires.reads
-
-pub returns-in-Halted-clause-gave : goal.returns-in-Halted-clause-gave
-returns-in-Halted-clause-gave g c e reads = inl (stays_given_up g.C.Cell.tells g.C.Cell.state g.O.Origin.offers c.args.store.now c.args.tab c.args.pass.now e reads c.look_again.new.pass c.look_again.result c.look_again.ensures.looked c.look_again.ensures.fresh
-    c.look_again.ensures.others c.look_again.ensures.tabs (c.in-Halted.ensures.halted refl) c.args.out.now)
-
-pub returns-in-Halted-clause-others : goal.returns-in-Halted-clause-others
-returns-in-Halted-clause-others g c = follows_looked g.C.Cell.tells g.C.Cell.state g.O.Origin.offers c.args.store.now c.args.tab c.args.pass.now c.look_again.new.pass c.look_again.ensures.others
-
-pub returns-in-Halted-clause-inner : goal.returns-in-Halted-clause-inner
-returns-in-Halted-clause-inner g c = ap (λ (xs : List (Tab (List ℕ))). get_or xs inner Tab.Free) c.look_again.ensures.tabs
-
-pub returns-in-Halted-clause-length : goal.returns-in-Halted-clause-length
-returns-in-Halted-clause-length g c = refl
-
-pub returns-in-Halted-clause-failed : goal.returns-in-Halted-clause-failed
-returns-in-Halted-clause-failed g c e = absurd (halted_fault e)
-
-pub returns-in-Halted-clause-unfailed : goal.returns-in-Halted-clause-unfailed
-returns-in-Halted-clause-unfailed g c ne = refl
-
-pub returns-in-Halted-clause-quiet : goal.returns-in-Halted-clause-quiet
-returns-in-Halted-clause-quiet g c = c.look_again.ensures.quiet

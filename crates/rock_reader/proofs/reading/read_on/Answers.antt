@@ -1,15 +1,14 @@
-use Rattle.std.proofs.Common.{List, ap, arith, false, length, refl, sym, true, ◌≡◌, ◌∙◌, ℕ}
+use Rattle.std.proofs.Common.{arith, false, length, refl, true, ◌≡◌, ◌∙◌}
 use Rattle.core_model.specs.Tabs.{inner, tab_at}
 use Rattle.core_model.specs.declared.tab.Turn.TheVariants.{NoTurn}
-use Rattle.core_model.specs.declared.view.View.{View}
 use Rattle.store_rule.specs.Passes.{basis, view}
 use Rattle.slice_chain.proofs.Writing.{buffer_long}
 use Rattle.rock_reader.proofs.GivenBodies.{gave_read}
 use Rattle.rock_reader.proofs.InnerTab.{given_inner, looked_inner, not_inner, read_inner}
 use Rattle.rock_reader.proofs.Looking.{of_reader}
-use Rattle.rock_reader.proofs.ReaderFollows.{follows_given, follows_looked, follows_read, follows_told, given_quiet, not_fault, read_held, told_view}
+use Rattle.rock_reader.proofs.ReaderFollows.{follows_given, follows_looked, follows_read, given_quiet, not_fault, read_held}
 use Rattle.rock_reader.proofs.ReadingOn.{fails, gave_none, known_held, may_read}
-use Rattle.store_rule.proofs.Quieting.{quiet_same, quiet_then}
+use Rattle.store_rule.proofs.Quieting.{quiet_then}
 use Rattle.rock_reader.proofs.reading.read_on.Goals as goal
 
 pub place_of-place-requires-clause-below : goal.place_of-place-requires-clause-below
@@ -24,16 +23,13 @@ look_on-found-requires g c = c.requires.there
 pub returns-in-NotWritten-clause-gave : goal.returns-in-NotWritten-clause-gave
 returns-in-NotWritten-clause-gave g c e reads = gave_none g.C.Cell.tells g.C.Cell.state g.O.Origin.offers c.args.store.now c.args.tab c.args.pass.now e reads c.look_on-found.new.pass c.look_on-found.result.epoch c.look_on-found.result.link
     c.look_on-found.ensures.found c.look_on-found.ensures.others c.in-NotWritten.is c.look_on-found.ensures.fresh
-    (known_held g.C.Cell.tells g.C.Cell.state g.O.Origin.offers c.args.store.now c.args.tab c.args.pass.now e reads c.requires.known)
-    (sym reads.halted ∙ c.requires.going) c.args.out.now c.args.out.now refl c.unwritten.new.pass c.unwritten.result c.unwritten.ensures.told
+    (known_held g.C.Cell.tells g.C.Cell.state g.O.Origin.offers c.args.store.now c.args.tab c.args.pass.now e reads c.requires.known) c.args.out.now c.args.out.now refl c.unwritten.result c.unwritten.ensures.grows c.unwritten.ensures.halted
 
 pub returns-in-NotWritten-clause-others : goal.returns-in-NotWritten-clause-others
-returns-in-NotWritten-clause-others g c = follows_told g.C.Cell.tells g.C.Cell.state g.O.Origin.offers c.args.store.now c.args.tab c.look_on-found.result.epoch c.args.pass.now c.look_on-found.new.pass c.unwritten.new.pass c.unwritten.result
-    (follows_looked g.C.Cell.tells g.C.Cell.state g.O.Origin.offers c.args.store.now c.args.tab c.args.pass.now c.look_on-found.new.pass c.look_on-found.ensures.others) c.unwritten.ensures.told
+returns-in-NotWritten-clause-others g c = follows_looked g.C.Cell.tells g.C.Cell.state g.O.Origin.offers c.args.store.now c.args.tab c.args.pass.now c.look_on-found.new.pass c.look_on-found.ensures.others
 
 pub returns-in-NotWritten-clause-inner : goal.returns-in-NotWritten-clause-inner
-returns-in-NotWritten-clause-inner g c = ap (λ (v : View (List ℕ)). tab_at v inner) (told_view c.args.tab c.look_on-found.result.epoch c.look_on-found.new.pass c.unwritten.new.pass c.unwritten.result c.unwritten.ensures.told)
-    ∙ (looked_inner (basis g.C.Cell.tells g.C.Cell.state g.O.Origin.offers c.args.store.now) c.args.tab (not_inner c.args.tab c.requires.may.below) c.look_on-found.result.epoch c.look_on-found.result.link (view c.args.pass.now) (view c.look_on-found.new.pass) c.look_on-found.ensures.found)
+returns-in-NotWritten-clause-inner g c = (looked_inner (basis g.C.Cell.tells g.C.Cell.state g.O.Origin.offers c.args.store.now) c.args.tab (not_inner c.args.tab c.requires.may.below) c.look_on-found.result.epoch c.look_on-found.result.link (view c.args.pass.now) (view c.look_on-found.new.pass) c.look_on-found.ensures.found)
 
 pub returns-in-NotWritten-clause-length : goal.returns-in-NotWritten-clause-length
 returns-in-NotWritten-clause-length g c = refl
@@ -65,7 +61,7 @@ pub returns-in-Ok-clause-gave : goal.returns-in-Ok-clause-gave
 returns-in-Ok-clause-gave g c e reads = gave_read g.C.Cell.tells g.C.Cell.state g.O.Origin.offers c.args.store.now c.args.tab c.args.pass.now e reads c.look_on-found.new.pass c.look_on-found.result.epoch c.look_on-found.result.link
     c.look_on-found.ensures.found c.look_on-found.ensures.others c.in_default.not-NotWritten c.read_slot.new.pass c.in-Ok.ensures.ok.0 c.in-Ok.ensures.ok.1 c.read_slot.ensures.others c.slots_are_small.ensures
     record { full = c.pieces_make_the_content.ensures.full; last = c.pieces_make_the_content.ensures.last }
-    c.requires.known (sym reads.halted ∙ c.requires.going) c.place_of-place.result c.place_of-place.ensures c.args.out.now c.give.new.out c.give.new.pass c.give.result c.give.ensures.given
+    c.requires.known c.place_of-place.result c.place_of-place.ensures c.args.out.now c.give.new.out c.give.new.pass c.give.result c.give.ensures.given
 
 pub returns-in-Ok-clause-others : goal.returns-in-Ok-clause-others
 returns-in-Ok-clause-others g c = follows_given g.C.Cell.tells g.C.Cell.state g.O.Origin.offers c.args.store.now c.args.tab (basis g.C.Cell.tells g.C.Cell.state g.O.Origin.offers c.args.store.now).setting.slots c.place_of-place.result c.args.pass.now c.read_slot.new.pass c.give.new.pass
@@ -90,8 +86,7 @@ returns-in-Ok-clause-unfailed g c ne = c.in-Ok.ensures.unfailed
 pub returns-in-Err-clause-gave : goal.returns-in-Err-clause-gave
 returns-in-Err-clause-gave g c e reads = fails g.C.Cell.tells g.C.Cell.state g.O.Origin.offers c.args.store.now c.args.tab c.args.pass.now e reads c.look_on-found.new.pass c.look_on-found.result.epoch c.look_on-found.result.link
     c.look_on-found.ensures.found c.look_on-found.ensures.others c.in_default.not-NotWritten c.read_slot.new.pass c.in-Err.ensures.err.0 c.in-Err.ensures.err.1 c.read_slot.ensures.others
-    (known_held g.C.Cell.tells g.C.Cell.state g.O.Origin.offers c.args.store.now c.args.tab c.args.pass.now e reads c.requires.known)
-    (sym reads.halted ∙ c.requires.going) c.args.out.now c.args.out.now refl
+    (known_held g.C.Cell.tells g.C.Cell.state g.O.Origin.offers c.args.store.now c.args.tab c.args.pass.now e reads c.requires.known) c.args.out.now c.args.out.now refl
 
 pub returns-in-Err-clause-others : goal.returns-in-Err-clause-others
 returns-in-Err-clause-others g c = follows_read g.C.Cell.tells g.C.Cell.state g.O.Origin.offers c.args.store.now c.args.tab c.args.pass.now c.look_on-found.new.pass c.read_slot.new.pass c.look_on-found.ensures.others c.read_slot.ensures.others
@@ -111,11 +106,7 @@ pub returns-in-Err-clause-unfailed : goal.returns-in-Err-clause-unfailed
 returns-in-Err-clause-unfailed g c ne = absurd (ne refl)
 
 pub returns-in-NotWritten-clause-quiet : goal.returns-in-NotWritten-clause-quiet
-returns-in-NotWritten-clause-quiet g c = quiet_then c.look_on-found.ensures.quiet
-    (quiet_same _ _ (ap View.trail (told_view c.args.tab c.look_on-found.result.epoch c.look_on-found.new.pass c.unwritten.new.pass c.unwritten.result c.unwritten.ensures.told)))
-
-pub unwritten-requires : goal.unwritten-requires
-unwritten-requires g c = let b = c.requires.may.below in omega arith
+returns-in-NotWritten-clause-quiet g c = c.look_on-found.ensures.quiet
 
 pub returns-in-Ok-clause-quiet : goal.returns-in-Ok-clause-quiet
 returns-in-Ok-clause-quiet g c = quiet_then (quiet_then c.look_on-found.ensures.quiet c.read_slot.ensures.quiet) (given_quiet c.args.tab (basis g.C.Cell.tells g.C.Cell.state g.O.Origin.offers c.args.store.now).setting.slots c.place_of-place.result c.read_slot.new.pass c.give.new.pass c.args.out.now c.give.new.out c.give.result c.give.ensures.given)

@@ -1,7 +1,6 @@
-use Rattle.std.proofs.Common.{List, ap, arith, false, length, ◌∙◌, ℕ}
-use Rattle.tab_states.specs.declared.desks.Draft.{Draft}
+use Rattle.std.proofs.Common.{List, ap, arith, length, ◌∙◌, ℕ}
 use Rattle.rock_reader.specs.Wanted.{kept_of}
-use Rattle.rock_reader.proofs.Desks.{draft_there, held_there, kept_there}
+use Rattle.rock_reader.proofs.Desks.{held_there, kept_there}
 use Rattle.rock_reader.proofs.wanted.keep_url.Goals as goal
 
 pub returns : goal.returns
@@ -12,13 +11,11 @@ returns g c = record {
   hand = c.set_draft.ensures.hand;
   cells = c.set_draft.ensures.cells;
   bytes = c.put_front-held.new.buffer;
-  draft = record c.draft-draft.result { held = c.put_front-held.result; is_halted = false };
+  draft = record c.draft-draft.result { held = c.put_front-held.result };
   desks = c.set_draft.ensures.desks;
-  kept = kept_there c.args.pass.now.desks c.set_draft.new.self.desks c.args.tab c.put_front-held.new.buffer (record c.draft-draft.result { held = c.put_front-held.result; is_halted = false })
+  kept = kept_there c.args.pass.now.desks c.set_draft.new.self.desks c.args.tab c.put_front-held.new.buffer (record c.draft-draft.result { held = c.put_front-held.result })
       (let n = c.args.pass.now.nine_desks in let b = c.requires.below in omega arith) (c.put_front-held.ensures.length ∙ ap length c.buffer_mut.ensures.value) c.set_draft.ensures.desks
       ∙ c.put_front-held.ensures.front ∙ ap (λ (bytes : List ℕ). kept_of (length bytes) c.args.url.now) c.buffer_mut.ensures.value;
-  within = let e = held_there c.args.pass.now.desks c.set_draft.new.self.desks c.args.tab c.put_front-held.new.buffer (record c.draft-draft.result { held = c.put_front-held.result; is_halted = false })
+  within = let e = held_there c.args.pass.now.desks c.set_draft.new.self.desks c.args.tab c.put_front-held.new.buffer (record c.draft-draft.result { held = c.put_front-held.result })
       (let n = c.args.pass.now.nine_desks in let b = c.requires.below in omega arith) c.set_draft.ensures.desks in let w = c.put_front-held.ensures.within in let l = ap length c.buffer_mut.ensures.value in omega (arith, e);
-  going = ap (λ (d : Draft). d.is_halted) (draft_there c.args.pass.now.desks c.set_draft.new.self.desks c.args.tab c.put_front-held.new.buffer (record c.draft-draft.result { held = c.put_front-held.result; is_halted = false })
-      (let n = c.args.pass.now.nine_desks in let b = c.requires.below in omega arith) c.set_draft.ensures.desks);
 }

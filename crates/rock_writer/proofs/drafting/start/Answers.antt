@@ -24,7 +24,7 @@ returns-clause-started g c e begun durable =
     let url = url_in ground e in
     let size = c.put_meta-held.ensures.size in
     let put = c.put_meta-held.ensures.put in
-    let draft : Draft = record { key = c.args.key.now; held = c.put_meta-held.result; is_durable = c.args.is_durable; is_halted = false } in
+    let draft : Draft = record { key = c.args.key.now; held = c.put_meta-held.result; is_durable = c.args.is_durable } in
     started ground t q.desks e c.args.key.now c.args.url.now draft
     (drafted_draft t r q draft c.requires.below c.set_draft.ensures)
     refl
