@@ -1,5 +1,5 @@
 -- Who may come to an anchor that is left to one pass.
-use Rattle.std.proofs.Common.{◌≤◌, ◌≡◌, ◌⊎◌, inl, inr, ⊎_elim, ℕ, ◌==◌, ◌&&◌, true, Option, Some, None, sym, ap, arith}
+use Rattle.std.proofs.Common.{◌≤◌, ◌≡◌, ◌⊎◌, inl, inr, ⊎_elim, ℕ, ◌==◌, ◌&&◌, true, Option, Some, None, sym, refl, ap, arith}
 use Rattle.std.proofs.lemmas.Bool.{and_parts, eqb-true, or_cases}
 use mathlib.Core.Option.{some}
 use lib.ListN.{get_elem?}

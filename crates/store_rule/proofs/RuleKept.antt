@@ -35,6 +35,7 @@ use Rattle.core_room.proofs.Kept.{keeps_room}
 use Rattle.core_room.proofs.Opened.{room_opened}
 use Rattle.core_room.proofs.Renewed.{room_renewed, room_rewritten, room_wiped}
 use Rattle.core_log.proofs.HasLog.{log_after, log_opened, log_renewed, log_rewritten, log_wiped}
+use Rattle.core_log.proofs.LogOpened.{no_log}
 use Rattle.core_wiped.proofs.HasWipes.{wipes_after, wipes_opened, wipes_renewed, wipes_rewritten, wipes_wiped}
 use Rattle.core_alone.specs.Alone.{StandsAlone}
 use Rattle.core_alone.proofs.Kept.{stands_after}
@@ -62,7 +63,7 @@ module _ {X : Type 0} (g : Ground X) where
     rests = rests_end_new s (λ i v at t x there. new_free g.setting g.setting.passes 0 i v at t x there);
     halted = short_new (offering_of g) g.setting s g.setting.passes refl;
     logged = log_opened (offering_of g) g.setting s r is_set opened sound low;
-    wiped = wipes_opened g.setting r s is_set opened (log_opened (offering_of g) g.setting s r is_set opened sound low).stands;
+    wiped = wipes_opened g.setting r s is_set opened (no_log g.setting r s is_set opened sound low);
     room = λ fitting. room_opened g.setting r s is_set opened (need_of g) g.chain (λ a lt. ap (λ (c : ℕ → List ℕ). c a) chain);
     alone = alone_new (left_to g) g.setting s opened.words opened.views;
     halts = halts_new g.setting s opened.views;
