@@ -12,6 +12,7 @@ mod standing;
 
 pub use absurd::{
     no_entry_has_version_0, no_fault_comes_of_no_call, no_winner_is_freed_by_refusals,
+    nothing_is_full_where_the_script_fits,
 };
 pub use crashes::closed_runs_leave_responses;
 pub use lawful::a_put_and_a_get_keep_the_rules;
