@@ -107,9 +107,9 @@ module _ {C O : Type 0} (tells : Bool) (state : C → CellState) (offers : O →
             drew = None;
             opened = 0;
             looked = 0;
-            adds = adds_by r (view p) (view q) served l refl (OfPublishing (name_of g e) (view q).seen)
+            adds = adds_by r (view p) (view q) served l refl (OfPublishing g (name_of g e) (view q).seen)
                 (serving.added tells state offers s t e p q (entry_of tells state offers s t e h.is) k)
-                (λ d. of_publishing r (view q) served l d (record { may = tt; wants = refl }) (name_of g e) (view q).seen (grows g e h.first first served l h.writes (view q)))
+                (λ d. of_publishing r (view q) served l d g (λ unfit. record { may = tt; wants = unfit }) (name_of g e) (view q).seen (grows g e h.first first served l h.writes (view q)))
                 none
                 (tells_by r (view q) served l has_added
                 (plain r (view q) served l (no_more r (view q) served l (λ j e. cc)) (λ b f shows. (none b f shows).seen) tt refl (λ x z. z) (λ x z. z) (λ url body z. z) (writer_fits tells state offers s told past served p t (answer.Added count) q h) (λ z. cc)))
@@ -143,11 +143,11 @@ module _ {C O : Type 0} (tells : Bool) (state : C → CellState) (offers : O →
           drew = None;
           opened = 0;
           looked = 0;
-          adds = adds_by r (view p) (view q) served l refl (OfGivingUp (name_of g e) (view q).seen)
+          adds = adds_by r (view p) (view q) served l refl (OfGivingUp g (name_of g e) (view q).seen)
               (serving.not_added tells state offers s t e p q (entry_of tells state offers s t e h.is) k)
-              (λ d. of_giving_up r (view q) served l d (record { may = fault_evicts fault; wants = refl }) (name_of g e) (view q).seen (grows g e h.first first served l h.writes (view q)) (halts g e h.first first served l h.writes (gives_up_fault fault)))
+              (λ d. of_giving_up r (view q) served l d g (λ unfit. record { may = fault_evicts fault; wants = unfit }) (name_of g e) (view q).seen (grows g e h.first first served l h.writes (view q)) (halts g e h.first first served l h.writes (gives_up_fault fault)))
               none
-              (tells_by r (view q) served l (fault_told r (view q) served l fault up refl (λ z. large_of g told past e h.first first h.is.rests.from served l h.writes (not_added_large tells state offers s t e p q fault k z)))
+              (tells_by r (view q) served l (fault_told r (view q) served l fault up k.stopped.unfit (λ z. large_of g told past e h.first first h.is.rests.from served l h.writes (not_added_large tells state offers s t e p q fault k z)))
               (plain r (view q) served l (no_more r (view q) served l (λ j e. cc)) (λ b f shows. (none b f shows).seen) (answers fault) refl (λ x z. z) (λ x z. z) (λ url body z. z) (writer_fits tells state offers s told past served p t (answer_to_fault fault) q h) (fault_no_tab fault)))
               (λ y f bytes z. absurd (fault_no_part fault f bytes z));
           tracks = tracks_on_tab tells state offers s told past served p q t l below leaves (λ j ne. elsewhere (Add t asked) (answer_to_fault fault) j ne)

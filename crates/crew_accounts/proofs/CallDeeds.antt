@@ -14,6 +14,7 @@ use Rattle.line_account.specs.Answers.{HasPart, Run}
 use Rattle.line_account.specs.Accounts.{Shows, Tells}
 use Rattle.line_account.specs.Courses.{Adds}
 use Rattle.line_account.proofs.Versions.{told_began}
+use Rattle.store_rule.specs.Ground.{Ground, fits}
 use Rattle.rock_writer.specs.declared.fault.Ended.{Ended}
 use Rattle.rock_writer.specs.declared.fault.Ended.TheVariants.{Doomed, Stored}
 use Rattle.rock_writer.specs.Finishing.{is_doomed, version_of}
@@ -56,41 +57,42 @@ module _ {X : Type 0} (r : Run X) (v : View X) (earlier : List Served) (s : Serv
   of_halting a version halts (inl h) = deed.halted r v earlier s d version h.kind h.stage_is h.version_is (subst (λ b. Halts r.setting.anchors earlier s b version) (sym h.anchor) halts)
   of_halting a version halts (inr h) = of_leaving h
 
-  module _ (evicts : Evicts r s) where
-    of_reserving : OfReserving d → IsDeedOf r v d earlier s
-    of_reserving (inl h) = deed.evicted r v earlier s d h.kind h.stage evicts
+  -- an entry is evicted in a store that does not fit
+  module _ {Y : Type 0} (g : Ground Y) (evicts : fits g ≡ false → Evicts r s) where
+    of_reserving : OfReserving g d → IsDeedOf r v d earlier s
+    of_reserving (inl h) = deed.evicted r v earlier s d h.kind h.stage (evicts h.unfit)
     of_reserving (inr h) = deed.gone r v earlier s d h.kind h.stage
 
-    pub of_publishing : (n : Naming) (seen : List Sight) → (HasNames n seen → Grows r.setting v earlier s n.anchor n.version) → OfPublishing n seen d → IsDeedOf r v d earlier s
+    pub of_publishing : (n : Naming) (seen : List Sight) → (HasNames n seen → Grows r.setting v earlier s n.anchor n.version) → OfPublishing g n seen d → IsDeedOf r v d earlier s
     of_publishing n seen grows (inl h) = deed.grew r v earlier s d n.version h.raised.kind h.raised.stage_is h.raised.version_is
         (subst (λ b. Grows r.setting v earlier s b n.version) (sym h.raised.anchor) (grows h.names))
     of_publishing n seen grows (inr h) = of_reserving h
 
-    pub of_refusing : (a version : ℕ) → Halts r.setting.anchors earlier s a version → OfRefusing a version d → IsDeedOf r v d earlier s
+    pub of_refusing : (a version : ℕ) → Halts r.setting.anchors earlier s a version → OfRefusing g a version d → IsDeedOf r v d earlier s
     of_refusing a version halts (inl h) = of_reserving h
     of_refusing a version halts (inr h) = of_halting a version halts h
 
-    pub of_closing : (n : Naming) (seen : List Sight) (ended : Ended) → (HasNames n seen → Grows r.setting v earlier s n.anchor n.version) → s.answer ≡ answer_to_ended ended → OfClosing n seen ended d → IsDeedOf r v d earlier s
+    pub of_closing : (n : Naming) (seen : List Sight) (ended : Ended) → (HasNames n seen → Grows r.setting v earlier s n.anchor n.version) → s.answer ≡ answer_to_ended ended → OfClosing g n seen ended d → IsDeedOf r v d earlier s
     of_closing n seen ended grows answered (inl h) = deed.closed r v earlier s d n.version h.raised.raised.kind h.raised.raised.stage_is h.raised.raised.version_is
         (subst (λ b. Grows r.setting v earlier s b n.version) (sym h.raised.raised.anchor) (grows h.raised.names))
         (subst (λ z. Finishes z d.epoch) (sym answered) (finishes ended d.epoch (h.raised.raised.version_is ∙ sym h.answered) h.doomed))
     of_closing n seen ended grows answered (inr (inl h)) = of_reserving h
     of_closing n seen ended grows answered (inr (inr h)) = of_leaving h
 
-    pub of_ending : (n : Naming) (seen : List Sight) (ended : Ended) → (HasNames n seen → Grows r.setting v earlier s n.anchor n.version) → s.answer ≡ answer_to_ended ended → OfEnding n seen ended d → IsDeedOf r v d earlier s
+    pub of_ending : (n : Naming) (seen : List Sight) (ended : Ended) → (HasNames n seen → Grows r.setting v earlier s n.anchor n.version) → s.answer ≡ answer_to_ended ended → OfEnding g n seen ended d → IsDeedOf r v d earlier s
     of_ending n seen ended grows answered (inl h) = of_publishing n seen grows h
     of_ending n seen ended grows answered (inr h) = of_closing n seen ended grows answered h
 
-    pub of_giving_up : (n : Naming) (seen : List Sight) → (HasNames n seen → Grows r.setting v earlier s n.anchor n.version) → Halts r.setting.anchors earlier s n.anchor n.version → OfGivingUp n seen d → IsDeedOf r v d earlier s
+    pub of_giving_up : (n : Naming) (seen : List Sight) → (HasNames n seen → Grows r.setting v earlier s n.anchor n.version) → Halts r.setting.anchors earlier s n.anchor n.version → OfGivingUp g n seen d → IsDeedOf r v d earlier s
     of_giving_up n seen grows halts (inl h) = of_publishing n seen grows h
     of_giving_up n seen grows halts (inr h) = of_refusing n.anchor n.version halts h
 
-    pub of_putting : (n : Naming) (seen : List Sight) (ended : Ended) → Begins r.setting.anchors s n.anchor n.version → (HasNames n seen → Grows r.setting v earlier s n.anchor n.version) → s.answer ≡ answer_to_ended ended → OfPutting n seen ended d
+    pub of_putting : (n : Naming) (seen : List Sight) (ended : Ended) → Begins r.setting.anchors s n.anchor n.version → (HasNames n seen → Grows r.setting v earlier s n.anchor n.version) → s.answer ≡ answer_to_ended ended → OfPutting g n seen ended d
         → IsDeedOf r v d earlier s
     of_putting n seen ended begins grows answered (inl h) = of_beginning n.anchor n.version begins h
     of_putting n seen ended begins grows answered (inr h) = of_ending n seen ended grows answered h
 
-    pub of_putting_in_vain : (n : Naming) (seen : List Sight) → Begins r.setting.anchors s n.anchor n.version → (HasNames n seen → Grows r.setting v earlier s n.anchor n.version) → Halts r.setting.anchors earlier s n.anchor n.version → OfPuttingInVain n seen d
+    pub of_putting_in_vain : (n : Naming) (seen : List Sight) → Begins r.setting.anchors s n.anchor n.version → (HasNames n seen → Grows r.setting v earlier s n.anchor n.version) → Halts r.setting.anchors earlier s n.anchor n.version → OfPuttingInVain g n seen d
         → IsDeedOf r v d earlier s
     of_putting_in_vain n seen begins grows halts (inl h) = of_beginning n.anchor n.version begins h
     of_putting_in_vain n seen begins grows halts (inr h) = of_giving_up n seen grows halts h

@@ -43,6 +43,7 @@ use Rattle.crew_accounts.proofs.Small.{ended_small}
 use Rattle.crew_accounts.proofs.TooLarge.{not_ended_large}
 use Rattle.crew_accounts.proofs.Tracking.{tracks_on_tab}
 use Rattle.crew_accounts.proofs.TurningAway.{away_adds}
+use Rattle.crew_accounts.proofs.Unfit.{not_ended_unfit}
 use Rattle.crew_accounts.proofs.WriterLines.{begun_by_first, given_up, grows, halts}
 
 module _ {C O : Type 0} (tells : Bool) (state : C → CellState) (offers : O → Offers) (s : Store C O) (told : Bool) (past : Past) (served : List Served) (worker number t : ℕ) (p q : Pass C) (below : t < whole_tab) where
@@ -84,9 +85,9 @@ module _ {C O : Type 0} (tells : Bool) (state : C → CellState) (offers : O →
           drew = None;
           opened = 0;
           looked = 0;
-          adds = adds_by r (view p) (view q) served l refl (OfEnding (name_of g e) (view q).seen ended)
+          adds = adds_by r (view p) (view q) served l refl (OfEnding g (name_of g e) (view q).seen ended)
               (serving.ended tells state offers s t e p q (entry_of tells state offers s t e h.is) k)
-              (λ d. of_ending r (view q) served l d (record { may = ended_evicts ended; wants = refl }) (name_of g e) (view q).seen ended (grows g e h.first first served l h.writes (view q)) refl)
+              (λ d. of_ending r (view q) served l d g (λ unfit. record { may = ended_evicts ended; wants = unfit }) (name_of g e) (view q).seen ended (grows g e h.first first served l h.writes (view q)) refl)
               shows
               (tells_by r (view q) served l (ended_told r (view q) served l ended finished (small_of g told past e h.first first h.is.rests.from served l h.writes (ended_small tells state offers s t e p q ended k h.small)))
               (plain r (view q) served l (no_more r (view q) served l (λ j e. cc)) (λ b f z. (shows b f z).seen) (answers_ended ended) refl (λ x z. z) (λ x z. z) (λ url body z. z) (writer_fits tells state offers s told past served p t (answer_to_ended ended) q h) (ended_no_tab ended)))
@@ -105,11 +106,11 @@ module _ {C O : Type 0} (tells : Bool) (state : C → CellState) (offers : O →
           drew = None;
           opened = 0;
           looked = 0;
-          adds = adds_by r (view p) (view q) served l refl (OfGivingUp (name_of g e) (view q).seen)
+          adds = adds_by r (view p) (view q) served l refl (OfGivingUp g (name_of g e) (view q).seen)
               (serving.not_ended tells state offers s t e p q fault (entry_of tells state offers s t e h.is) k)
-              (λ d. of_giving_up r (view q) served l d (record { may = fault_evicts fault; wants = refl }) (name_of g e) (view q).seen (grows g e h.first first served l h.writes (view q)) (halts g e h.first first served l h.writes (gives_up_fault fault)))
+              (λ d. of_giving_up r (view q) served l d g (λ unfit. record { may = fault_evicts fault; wants = unfit }) (name_of g e) (view q).seen (grows g e h.first first served l h.writes (view q)) (halts g e h.first first served l h.writes (gives_up_fault fault)))
               none
-              (tells_by r (view q) served l (fault_told r (view q) served l fault up refl (λ z. large_of g told past e h.first first h.is.rests.from served l h.writes (not_ended_large tells state offers s t e p q fault k z)))
+              (tells_by r (view q) served l (fault_told r (view q) served l fault up (not_ended_unfit tells state offers s t e p q fault k) (λ z. large_of g told past e h.first first h.is.rests.from served l h.writes (not_ended_large tells state offers s t e p q fault k z)))
               (plain r (view q) served l (no_more r (view q) served l (λ j e. cc)) (λ b f z. (none b f z).seen) (answers_fault fault) refl (λ x z. z) (λ x z. z) (λ url body z. z) (writer_fits tells state offers s told past served p t (answer_to_fault fault) q h) (fault_no_tab fault)))
               (λ y f bytes z. absurd (fault_no_part fault f bytes z));
           tracks = tracks_on_tab tells state offers s told past served p q t l below leaves (λ j ne. elsewhere (End t) (answer_to_fault fault) j ne)

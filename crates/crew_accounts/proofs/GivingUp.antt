@@ -88,10 +88,10 @@ ended_no_tab (Stored x) h = cc
 ended_no_tab (Doomed x) h = cc
 
 module _ {X : Type 0} (r : Run X) (v : View X) (earlier : List Served) (s : Served) where
-  pub fault_told : (fault : WriteFault) → HasGivenUp r.setting.anchors v earlier s → r.fits ≡ false → (answer_to_fault fault ≡ answer.Large → IsLarge r earlier s) → ToTell r v earlier s (answer_to_fault fault)
-  fault_told Large up fits large = (up, large refl)
-  fault_told Full up fits large = (up, fits)
-  fault_told Fault up fits large = up
+  pub fault_told : (fault : WriteFault) → HasGivenUp r.setting.anchors v earlier s → (fault ≡ Full → r.fits ≡ false) → (answer_to_fault fault ≡ answer.Large → IsLarge r earlier s) → ToTell r v earlier s (answer_to_fault fault)
+  fault_told Large up unfit large = (up, large refl)
+  fault_told Full up unfit large = (up, unfit refl)
+  fault_told Fault up unfit large = up
 
   pub ended_told : (ended : Ended) → HasFinished r.setting v earlier s (version_of ended) → IsSmall r earlier s → ToTell r v earlier s (answer_to_ended ended)
   ended_told (Stored x) h small = (h, small)

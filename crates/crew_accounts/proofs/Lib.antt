@@ -12,6 +12,7 @@ pub mod OneKey
 pub mod OtherUrls
 pub mod Small
 pub mod TooLarge
+mod Unfit
 pub mod OpenedLengths
 pub mod Fitting
 pub mod TurningAway

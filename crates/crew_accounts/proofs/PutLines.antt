@@ -52,6 +52,7 @@ use Rattle.crew_accounts.proofs.TabLines.{LeavesAlone, put_alone, save_alone}
 use Rattle.crew_accounts.proofs.Telling.{tells_by}
 use Rattle.crew_accounts.proofs.Small.{begun_small, ended_small}
 use Rattle.crew_accounts.proofs.TooLarge.{NeedsTooMany, not_ended_large}
+use Rattle.crew_accounts.proofs.Unfit.{not_ended_unfit}
 use Rattle.crew_accounts.proofs.Tracking.{tracks_whole}
 use Rattle.crew_accounts.proofs.WriterLines.{IsBegunBy, given_up, grows, halts}
 
@@ -146,9 +147,9 @@ module _ {C O : Type 0} (tells : Bool) (state : C → CellState) (offers : O →
           looked = 0;
           adds = adds_drawing r (view p) (view q) served l
               (begun_above r.setting.anchors (view p) l url x is.named (let later = begun_later k.began.took in let same = ended_version tells state offers s whole_tab e0 k.middle q ended k.ends in omega arith) (putting.told_ended ended))
-              (OfPutting (name_of g e) (view q).seen ended)
+              (OfPutting g (name_of g e) (view q).seen ended)
               (serving.put tells state offers s whole_tab offer url durable p q k)
-              (λ d. of_putting r (view q) served l d (record { may = ended_evicts ended; wants = refl }) (name_of g e) (view q).seen ended
+              (λ d. of_putting r (view q) served l d g (λ unfit. record { may = ended_evicts ended; wants = unfit }) (name_of g e) (view q).seen ended
               (record { anchor = record { url = url; named_is = is.named; anchor = refl }; drew = refl; began = putting.began_ended ended })
               (grows g e l first served l begun_is (view q)) refl)
               shows
@@ -175,13 +176,13 @@ module _ {C O : Type 0} (tells : Bool) (state : C → CellState) (offers : O →
           drew = Some x;
           opened = 0;
           looked = 0;
-          adds = adds_drawing r (view p) (view q) served l (λ b y h. absurd (putting.told_fault fault y h.told)) (OfPuttingInVain (name_of g e) (view q).seen)
+          adds = adds_drawing r (view p) (view q) served l (λ b y h. absurd (putting.told_fault fault y h.told)) (OfPuttingInVain g (name_of g e) (view q).seen)
               (serving.gave_up tells state offers s whole_tab offer url durable p q k)
-              (λ d. of_putting_in_vain r (view q) served l d (record { may = fault_evicts fault; wants = refl }) (name_of g e) (view q).seen
+              (λ d. of_putting_in_vain r (view q) served l d g (λ unfit. record { may = fault_evicts fault; wants = unfit }) (name_of g e) (view q).seen
               (record { anchor = record { url = url; named_is = is.named; anchor = refl }; drew = refl; began = putting.began_fault fault x })
               (grows g e l first served l begun_is (view q)) (halts g e l first served l begun_is (gives_up_fault fault)))
               none
-              (tells_by r (view q) served l (fault_told r (view q) served l fault up refl (λ z. large_of g told past e l first body_is.from served l begun_is (many z)))
+              (tells_by r (view q) served l (fault_told r (view q) served l fault up (not_ended_unfit tells state offers s whole_tab (begun tells state offers s whole_tab offer url durable p k.middle k.version) k.middle q fault k.stopped) (λ z. large_of g told past e l first body_is.from served l begun_is (many z)))
               (offering tells state offers s told past served (view q) l url body is body_is long (λ b f z. (none b f z).seen) (putting.fault fault)
               (λ y z. record { version = x; drew = refl; began = putting.began_fault fault x }) (putting.fits served) (fault_no_tab fault)))
               (λ y f bytes z. absurd (fault_no_part fault f bytes z));

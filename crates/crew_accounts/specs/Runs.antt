@@ -1,5 +1,5 @@
 -- The run of a store: what does not change while lines are served on it.
-use Rattle.std.specs.Prelude.{Bool, IsTrue, List, cond, false, nat_lt, ◌-◌, ◌<◌, ◌≡◌, ℕ}
+use Rattle.std.specs.Prelude.{Bool, IsTrue, List, cond, nat_lt, ◌-◌, ◌<◌, ◌≡◌, ℕ}
 use Rattle.store_key.specs.Anchor.{back_half, front_half}
 use Rattle.store_key.specs.Key.{key_of}
 use Rattle.entry_cut.specs.Content.{room_of}
@@ -7,7 +7,7 @@ use Rattle.core_model.specs.Layout.{word_in}
 use Rattle.core_model.specs.declared.moves.Side.TheVariants.{Key0, Key1, Offer}
 use Rattle.core_model.specs.declared.view.Place.TheVariants.{Beside}
 use Rattle.line_account.specs.Answers.{Run}
-use Rattle.store_rule.specs.Ground.{Ground, url_of}
+use Rattle.store_rule.specs.Ground.{Ground, fits, url_of}
 use Rattle.rock_reader.specs.Responses.{HoldsFile, IsOpened}
 
 -- what is said of the offers below the slots, which are those of entries of the opening
@@ -17,13 +17,13 @@ pub record Past : Type 0 where
 
 module _ (g : Ground (List ℕ)) (told : Bool) (past : Past) where
   -- The run of a store with this ground: where `told` is false nothing is said of bytes. An offer from the slots on is the origin's.
-  -- Nothing is said of runs that fit.
+  -- The run fits where the store does.
   abbrev pub run_of : Run (List ℕ)
   run_of = record {
     setting = g.setting;
     room = room_of g.slot;
     tells = told;
-    fits = false;
+    fits = fits g;
     url = λ offer. cond (nat_lt offer g.setting.slots) (past.url offer) (url_of g offer);
     body = λ offer. cond (nat_lt offer g.setting.slots) (past.body offer) (g.offers.body (offer - g.setting.slots));
   }

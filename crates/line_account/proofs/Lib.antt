@@ -3,6 +3,8 @@ pub mod Gathered
 pub mod Versions
 pub mod Courses
 pub mod Names
+pub mod GivenWay
+pub mod HaltedNew
 pub mod Printing
 pub mod HitVersions
 pub mod Found

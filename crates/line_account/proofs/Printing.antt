@@ -28,16 +28,18 @@ use Rattle.core_model.specs.declared.view.Kind.TheVariants.{Counted, Drew}
 use Rattle.core_model.specs.declared.view.Sight.TheVariants.{Stood}
 use Rattle.core_model.specs.declared.view.View.{View}
 use Rattle.core_model.specs.Anchors.{opening_counter, opening_epoch}
-use Rattle.core_model.specs.Deeds.{EnteredByAnother, EvictedVersion, HaltedVersion, IsDone, IsEpochAt, LeftEpoch}
+use Rattle.core_model.specs.Deeds.{EnteredByAnother, EvictedVersion, HaltedVersion, IsDone, IsEpochAt}
 use Rattle.core_model.proofs.DeedsTell.{known_evicted, known_old}
 use Rattle.script_text.specs.Requests.{url_in}
 use Rattle.line_account.specs.Lines.{begun_by, Fits, LineOf, Offers, Served, added, begun_of, writing}
-use Rattle.line_account.specs.Deeds.{Began, BeganOnTab, Begins, ComesTo, IsDeedOf, IsDeedOfEnd, MayEvict}
+use Rattle.line_account.specs.Deeds.{Began, BeganOnTab, Begins, ComesTo, Evicts, IsDeedOf, IsDeedOfEnd}
 use Rattle.line_account.specs.Requests.{IsAnswerTo}
 use Rattle.line_account.specs.Answers.{ComesIn, HasGiven, HasItem, IsSure, bytes_with, HasOther, HasPurged, IsCauseOf, IsEntryAt, IsKeyRead, IsLong, IsSpent, ReadAs, Refuses, Run}
 use Rattle.line_account.specs.Accounts.{epoch_in}
 use Rattle.line_account.specs.Closing.{BegunIn, Closed, HaltedIn, LineIn, ShownIn, Worker, offered}
 use Rattle.line_account.specs.Printed.{AnotherComes, EndsBegun, AreFirstOnes, IsStored, ReadsOf, GivenBackIn, HadEntry, HasBusyWords, HasOtherUrl, HitIn, IsBodyOfLine, IsKeyOfLine, IsOldBody, IsOldUrl, KeyIn, NeedsTooMany, PrintsAdded, PrintsEnded, PrintsHit, PrintsKey, PrintsLarge, PrintsOther, PrintsReaders, WasWhole, old_offer}
+use Rattle.line_account.proofs.GivenWay.{gave_way}
+use Rattle.line_account.proofs.HaltedNew.{halted_new}
 use Rattle.line_account.proofs.Gathered.{DeedIn, by_line, counter_below, counter_is, deed_in, inside, shown_known, tells_at}
 use Rattle.line_account.proofs.Versions.{closed_in, halted_in}
 use Rattle.line_account.proofs.Names.{HasOffer, begun_among, names_of, offer_of, offered_url}
@@ -334,16 +336,18 @@ module _ {X : Type 0} (r : Run X) (crew : List (Worker X)) (c : Closed r crew) w
       had (inl q) = ⊎_elim (λ (z : stage_of (opening_epoch r.setting a) ≡ 0). absurd (omega arith)) (λ (z : stage_of (opening_epoch r.setting a) ≡ 3). z) (c.sound.anchors.setting.stage a (inside r crew c a e known))
       had (inr q) = q.1
 
+  -- it was evicted by a line, in a run that does not fit
+  evicting : (a x : ℕ) → IsDone c.state (EvictedVersion a x) → LineIn crew (λ earlier s. Evicts r s)
+  evicting a x h = by_line r crew c (EvictedVersion a x) (λ earlier s. Evicts r s)
+      (λ v d earlier s q o. o.evicted q.0 q.3 q.4)
+      (λ d served q o. absurd (let f : true ≡ false = sym q.4 ∙ (o.changed q.0).1 in cc))
+      h
+
   pub given_back : (a e : ℕ) → ShownIn r crew a e → doom_of e ≡ 0 → 4 ≤ stage_of e → GivenBackIn r crew a (version_of e)
   given_back a e p undoomed four = ⊎_elim
       (λ (h : IsDone c.state (HaltedVersion a (version_of e))). inl (halted_in r crew c a (version_of e) h))
-      (λ (h : IsDone c.state (EvictedVersion a (version_of e))). inr (
-        by_line r crew c (EvictedVersion a (version_of e)) (λ earlier s. MayEvict s.answer)
-            (λ v d earlier s q o. (o.evicted q.0 q.3 q.4).may)
-            (λ d served q o. absurd (let f : true ≡ false = sym q.4 ∙ (o.changed q.0).1 in cc))
-            h,
-        was_whole a e (shown_known r crew c a e p) four h,
-      ))
+      (λ (h : IsDone c.state (EvictedVersion a (version_of e))).
+      inr (gave_way r crew a (version_of e) (evicting a (version_of e) h) (was_whole a e (shown_known r crew c a e p) four h)))
       (c.sound.anchors.deeds.undoomed a e (shown_known r crew c a e p) undoomed four)
 
   -- Runs that fit.
@@ -351,34 +355,14 @@ module _ {X : Type 0} (r : Run X) (crew : List (Worker X)) (c : Closed r crew) w
   given_back_deed : IsTrue r.fits → (a e : ℕ) → ShownIn r crew a e → doom_of e ≡ 0 → 4 ≤ stage_of e → IsDone c.state (HaltedVersion a (version_of e))
   given_back_deed fit a e p undoomed four = ⊎_elim
       (λ (h : IsDone c.state (HaltedVersion a (version_of e))). h)
-      (λ (h : IsDone c.state (EvictedVersion a (version_of e))). absurd (by_line r crew c (EvictedVersion a (version_of e)) (λ earlier s. ⊥)
-      (λ v d earlier s q o. absurd (let f : true ≡ false = sym fit ∙ (o.evicted q.0 q.3 q.4).wants in cc))
-      (λ d served q o. absurd (let f : true ≡ false = sym q.4 ∙ (o.changed q.0).1 in cc))
-      h).so)
+      (λ (h : IsDone c.state (EvictedVersion a (version_of e))). absurd (let f : true ≡ false = sym fit ∙ (evicting a (version_of e) h).so.wants in cc))
       (c.sound.anchors.deeds.undoomed a e (shown_known r crew c a e p) undoomed four)
 
   pub given_back_halted : IsTrue r.fits → (a e : ℕ) → ShownIn r crew a e → doom_of e ≡ 0 → 4 ≤ stage_of e → HaltedIn r crew a (version_of e)
   given_back_halted fit a e p undoomed four = halted_in r crew c a (version_of e) (given_back_deed fit a e p undoomed four)
 
-  -- no writing of a version of the opening was halted
-  halted_new : (a x : ℕ) → a < r.setting.anchors → IsDone c.state (HaltedVersion a x) → opening_counter r.setting < x
-  halted_new a x lt h = dite (dec_le x (opening_counter r.setting)) (λ low. absurd (not_old low)) (λ high. omega arith)
-    where
-      not_old : x ≤ opening_counter r.setting → ⊥
-      not_old low =
-          let left : IsDone c.state (LeftEpoch a h.deed.epoch) = record { i = h.i; view = h.view; at = h.at; deed = h.deed; done = h.done; so = ((h.so.1, inr (inl h.so.0)), refl) } in
-          let version = h.so.2 in
-          let four = h.so.3 in
-          ⊎_elim
-          (λ (q : stage_of h.deed.epoch ≡ stage_of (opening_epoch r.setting a)). ⊎_elim
-          (λ (z : stage_of (opening_epoch r.setting a) ≡ 0). omega arith)
-          (λ (z : stage_of (opening_epoch r.setting a) ≡ 3). omega arith)
-          (c.sound.anchors.setting.stage a lt))
-          (λ (q : (5 ≤ stage_of h.deed.epoch) × HadEntry r a). let z = q.0 in omega arith)
-          (c.sound.deeds_tell.old a h.deed.epoch left (omega arith)).stage
-
   pub given_back_new : IsTrue r.fits → (a e : ℕ) → ShownIn r crew a e → doom_of e ≡ 0 → 4 ≤ stage_of e → opening_counter r.setting < version_of e
-  given_back_new fit a e p undoomed four = halted_new a (version_of e) (inside r crew c a e (shown_known r crew c a e p)) (given_back_deed fit a e p undoomed four)
+  given_back_new fit a e p undoomed four = halted_new r.setting c.state c.sound a (version_of e) (inside r crew c a e (shown_known r crew c a e p)) (given_back_deed fit a e p undoomed four)
 
   pub never_full : IsTrue r.fits → LineIn crew (λ earlier s. s.answer ≡ answer.Full) → ⊥
   never_full fit p = let f : true ≡ false = sym fit ∙ (tells_at r crew c (λ earlier s. s.answer ≡ answer.Full) p).full p.so in cc

@@ -1,7 +1,7 @@
 -- Epochs that no run shows.
-use Rattle.std.proofs.Common.{Bool, Contains, ◌≡◌, ◌⊎◌, inl, inr, ⊎_elim, ℕ, ◌<◌, zero, suc, List, [], ◌∷◌, ◌++◌, sym, refl, ap, ◌∙◌, subst, arith, true, false, cond}
+use Rattle.std.proofs.Common.{Bool, Contains, ◌≡◌, ◌⊎◌, inl, inr, ⊎_elim, ℕ, ◌<◌, ◌≤◌, zero, suc, List, [], ◌∷◌, ◌++◌, sym, refl, ap, ◌∙◌, subst, arith, true, false, cond}
 use Rattle.std.proofs.lemmas.Bool.{and_right}
-use Rattle.std.specs.Prelude.{None, Some, ◌==◌}
+use Rattle.std.specs.Prelude.{IsTrue, None, Some, ◌==◌}
 use mathlib.Core.Option.{some, some-injective, some-ne-none}
 use lib.ListN.{get_elem?}
 use Rattle.lock_word.specs.Words.{doom_number, epoch_number, stage_number, stage_of, version_of}
@@ -26,7 +26,7 @@ use Rattle.line_account.specs.Answers.{Run}
 use Rattle.line_account.specs.Closing.{HaltedIn, LineIn, ShownIn, Stores, TellsBegunIn, Worker}
 use Rattle.line_account.specs.Deeds.{Halts, MayEvict, TellsBegun}
 use Rattle.line_account.specs.Lines.{IsAt, Served, begins, ends, gives_up, url_at, writing}
-use Rattle.line_account.specs.Printed.{WasWhole}
+use Rattle.line_account.specs.Printed.{MayGiveWay, WasWhole}
 use Rattle.line_account.specs.Refusals.{Any}
 use Rattle.line_account.specs.Rules.{KeepsRules}
 
@@ -136,7 +136,7 @@ module _ {X : Type 0} (r : Run X) (script : List Line) (w : Worker X) (rules : K
     pub never_freed : ⊥
     never_freed = ⊎_elim
         (λ (h : HaltedIn r (alone w) (home r url) (version_of e)). none_halted h)
-        (λ (h : LineIn (alone w) (λ earlier z. MayEvict z.answer) × WasWhole r (alone w) (home r url) (version_of e)). none_evicts h.0)
+        (λ (h : MayGiveWay r (alone w) (home r url) (version_of e)). none_evicts h.evicts)
         (rules.epochs.given_back (home r url) e
         (line_in r script (alone w) rules 0 w refl s is (λ earlier z. Shows r.setting.anchors earlier z (home r url) e) (record { at = record { url = url; named_is = ap (url_at []) sq; anchor = refl }; shown = busy s held sa }))
         (doom_of-epoch_number held.epoch ∙ ap (λ (z : Epoch). doom_number z.doom) of)
@@ -184,7 +184,7 @@ module _ {X : Type 0} (r : Run X) (script : List Line) (crew : List (Worker X)) 
   pub never_refused_away : LineIn crew (λ earlier s. IsAt r.setting.anchors earlier s a) → held.epoch ≡ record { version = x; stage = stage.Freeing; doom = false } → ⊥
   never_refused_away p of = ⊎_elim
       (λ (h : HaltedIn r crew a (version_of freed)). no_giving_up h)
-      (λ (h : LineIn crew (λ earlier z. MayEvict z.answer) × WasWhole r crew a (version_of freed)). no_eviction h.0)
+      (λ (h : MayGiveWay r crew a (version_of freed)). no_eviction h.evicts)
       (rules.epochs.given_back a freed shown
       (doom_of-epoch_number held.epoch ∙ ap (λ (z : Epoch). doom_number z.doom) of)
       (let at = stage_of-epoch_number held.epoch ∙ ap (λ (z : Epoch). stage_number z.stage) of in omega arith))
@@ -264,5 +264,30 @@ module _ {X : Type 0} (r : Run X) (script : List Line) (u w : Worker X) (rules :
     pub never_evicted : ⊥
     never_evicted = ⊎_elim
         (λ (h : HaltedIn r crew a (version_of gone)). no_halt h)
-        (λ (h : LineIn crew (λ earlier z. MayEvict z.answer) × WasWhole r crew a (version_of gone)). none_whole h.1)
+        (λ (h : MayGiveWay r crew a (version_of gone)). none_whole h.whole)
         (rules.epochs.given_back a gone (shown epoch ga) (doom_of-epoch_number epoch) (let at = stage_of-epoch_number epoch in omega arith))
+
+-- Entries of the file, in a run that fits.
+
+module _ {X : Type 0} (r : Run X) (script : List Line) (u w : Worker X) (rules : KeepsRules r script (u ∷ w ∷ [])) (fit : IsTrue r.fits) (s : Served) (is : w.served ≡ s ∷ []) (url : List ℕ) (x : ℕ)
+    (low : x ≤ opening_counter r.setting) where
+  pub never_lost : s.asked.request ≡ Get url → s.answer ≡ answer.Miss (Absent (record { version = x; stage = stage.Gone; doom = false })) → ⊥
+  never_lost sq sa =
+      let epoch : Epoch = record { version = x; stage = stage.Gone; doom = false } in
+      let e : ℕ = epoch_number epoch in
+      let version = version_of-epoch_number epoch in
+      let at = stage_of-epoch_number epoch in
+      let new = rules.epochs.given_back_new fit (home r url) e
+      (line_in r script (u ∷ w ∷ []) rules 1 w refl s is (λ earlier z. Shows r.setting.anchors earlier z (home r url) e) (at_get r.setting.anchors s url sq e (missed s epoch sa)))
+      (doom_of-epoch_number epoch) (omega arith) in
+      omega arith
+
+  pub never_freed_there : (body : Body) (held : Word) → s.asked.request ≡ Put url body → s.answer ≡ answer.Busy held held → held.epoch ≡ record { version = x; stage = stage.Freeing; doom = false } → ⊥
+  never_freed_there body held sq sa of =
+      let e : ℕ = epoch_number held.epoch in
+      let version = version_of-epoch_number held.epoch ∙ ap (λ (z : Epoch). z.version) of in
+      let at = stage_of-epoch_number held.epoch ∙ ap (λ (z : Epoch). stage_number z.stage) of in
+      let new = rules.epochs.given_back_new fit (home r url) e
+      (line_in r script (u ∷ w ∷ []) rules 1 w refl s is (λ earlier z. Shows r.setting.anchors earlier z (home r url) e) (record { at = record { url = url; named_is = ap (url_at []) sq; anchor = refl }; shown = busy s held sa }))
+      (doom_of-epoch_number held.epoch ∙ ap (λ (z : Epoch). doom_number z.doom) of) (omega arith) in
+      omega arith

@@ -32,8 +32,8 @@ use Rattle.line_account.specs.ScriptOrder.{◌then◌}
 
 -- What does not change during a run: the setting of the store, how many bytes of a content a slot takes, and the URL and the body of
 -- each offer. One below the slots is the entry of the file that begins at this slot, and another is that of a line. Where the cells do
--- not tell what they hold, nothing is said of bytes. A run fits where the slots suffice for the most that each anchor ever holds, and
--- the store keeps to it that none is wanting then; else nothing is said of that.
+-- not tell what they hold, nothing is said of bytes. A run fits where the slots suffice for the most that each anchor ever holds: then
+-- none is wanting.
 pub record Run (X : Type 0) : Type 0 where
   pub setting : Setting X
   pub room : ℕ

@@ -1,5 +1,5 @@
 -- Where the epochs and the versions come from that lines print.
-use Rattle.std.specs.Prelude.{List, true, ◌<◌, ◌≡◌, ◌≤◌, ◌⊎◌, ℕ}
+use Rattle.std.specs.Prelude.{IsTrue, List, true, ◌<◌, ◌≡◌, ◌≤◌, ◌⊎◌, ℕ}
 use Rattle.lock_word.specs.Words.{epoch_number, stage_of, version_of}
 use Rattle.lock_word.specs.declared.epoch.Epoch.{Epoch}
 use Rattle.script_text.specs.declared.answer.Answer.TheVariants as answer
@@ -54,6 +54,9 @@ module _ {X : Type 0} (r : Run X) (crew : List (Worker X)) where
     -- and it is at APPENDING, CLOSED or HALTED
     pub purged_stage : (e : Epoch) → LineIn crew (λ earlier s. s.answer ≡ answer.Purged e)
         → IsFromStage Appending (epoch_number e) × IsUpToStage Halted (epoch_number e)
-    -- An epoch at HALTED, FREEING or GONE is not doomed only where the writing of its version was halted, or some line may have evicted
-    -- an entry, for it printed STORED, DOOMED, ADDED, FULL, LARGE or FAULT, and its own was whole.
+    -- An epoch at HALTED, FREEING or GONE is not doomed only where the writing of its version was halted; or the run does not fit, some line
+    -- may have evicted an entry, for it printed STORED, DOOMED, ADDED, FULL, LARGE or FAULT, and its own was whole.
     pub given_back : (a e : ℕ) → ShownIn r crew a e → IsUndoomed e → IsFromStage Halted e → GivenBackIn r crew a (version_of e)
+    -- in a run that fits such an epoch has no version of the opening
+    pub given_back_new : IsTrue r.fits → (a e : ℕ) → ShownIn r crew a e → IsUndoomed e → IsFromStage Halted e
+        → opening_counter r.setting < version_of e

@@ -1,5 +1,5 @@
 -- What lines print of keys, bodies and readers, and where that comes from.
-use Rattle.std.specs.Prelude.{List, Some, [], length, min, take, ◌*◌, ◌+◌, ◌<◌, ◌≡◌, ◌≢◌, ◌≤◌, ◌⊎◌, ℕ}
+use Rattle.std.specs.Prelude.{List, Some, [], false, length, min, take, ◌*◌, ◌+◌, ◌<◌, ◌≡◌, ◌≢◌, ◌≤◌, ◌⊎◌, ℕ}
 use Rattle.store_key.specs.Anchor.{anchor_of, back_half, front_half}
 use Rattle.store_key.specs.Key.{key_of}
 use Rattle.lock_word.specs.Words.{epoch_number, version_of}
@@ -185,9 +185,18 @@ pub record PrintsAdded (earlier : List Served) (s : Served) (first : Served) (ta
 abbrev pub WasWhole : {X : Type 0} → Run X → List (Worker X) → (a x : ℕ) → Type 0
 WasWhole r crew a x = StoredIn r crew a x ⊎ (HadEntry r a × (x ≡ version_of (opening_epoch r.setting a)))
 
--- the writing of the version x at the anchor a was halted; or some line may have evicted an entry, by its answer, and the version was whole
+-- the entry of the version x at the anchor a may have given way for a slot
+pub record MayGiveWay {X : Type 0} (r : Run X) (crew : List (Worker X)) (a x : ℕ) : Type 0 where
+  -- the run does not fit
+  pub unfit : r.fits ≡ false
+  -- some line may have evicted an entry, by its answer
+  pub evicts : LineIn crew (λ earlier s. MayEvict s.answer)
+  -- and the version was whole
+  pub whole : WasWhole r crew a x
+
+-- the writing of the version x at the anchor a was halted, or the entry may have given way
 abbrev pub GivenBackIn : {X : Type 0} → Run X → List (Worker X) → (a x : ℕ) → Type 0
-GivenBackIn r crew a x = HaltedIn r crew a x ⊎ (LineIn crew (λ earlier s. MayEvict s.answer) × WasWhole r crew a x)
+GivenBackIn r crew a x = HaltedIn r crew a x ⊎ MayGiveWay r crew a x
 
 -- Bytes.
 

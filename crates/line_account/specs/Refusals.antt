@@ -62,6 +62,8 @@ module _ {X : Type 0} (r : Run X) (script : List Line) (crew : List (Worker X)) 
     -- and where it needs so many, no line prints STORED or DOOMED of it
     pub small : (first : Served) (url : List ℕ) (body : Body) → LineIn crew (λ earlier s. PrintsEnded earlier s first)
         → Offers first.asked.request url body → ¬ NeedsTooMany r url body
+    -- in a run that fits no line prints FULL
+    pub full : IsTrue r.fits → LineIn crew (λ earlier s. s.answer ≡ answer.Full) → ⊥
     -- OTHERURL comes only where another URL has the key of the one that is read
     pub other : IsTrue r.tells → (url : List ℕ) → LineIn crew (λ earlier s. PrintsOther earlier s url) → HasOtherUrl r crew url
     -- the cause of MISS and NONE is that of the epoch and the key that it prints, for the URL of the line

@@ -11,7 +11,7 @@ ghost use Rattle.script_text.specs.declared.request.Request.{Request};
 ghost use Rattle.core_model.specs.Anchors.{opening_epoch};
 ghost use Rattle.line_account.specs.Lines.{Served};
 ghost use Rattle.line_account.specs.Answers.{Run};
-ghost use Rattle.line_account.specs.Closing.{Worker};
+ghost use Rattle.line_account.specs.Closing.{LineIn, Worker};
 ghost use Rattle.line_account.specs.Alone.{alone, home};
 ghost use Rattle.line_account.specs.Printed.{NeedsTooMany};
 ghost use Rattle.line_account.specs.Rules.{KeepsRules};
@@ -67,6 +67,12 @@ pub fn nothing_too_large_is_stored<X>()
     ensures { (r : Run X) (script : List Line) (w : Worker X) (p : Served) (url : List ℕ) (body : Body) (x : ℕ)
         → KeepsRules r script (alone w) → w.served ≡ [] then p → p.asked.request ≡ Request.Put url body → p.answer ≡ Answer.Stored x
         → NeedsTooMany r url body → ⊥ }
+{}
+
+/// A line printed FULL in a run that fits, of however many workers (`answers.full`).
+pub fn nothing_is_full_where_lines_fit<X>()
+    ensures { (r : Run X) (script : List Line) (crew : List (Worker X)) → KeepsRules r script crew → IsTrue r.fits
+        → LineIn crew (λ earlier s. s.answer ≡ Answer.Full) → ⊥ }
 {}
 
 /// `open` printed OPEN, and `more` on its tab PART with another version: a tab stays at its entry (`tabs.part`).

@@ -1,5 +1,5 @@
 //! Examples: epochs that no run shows, for the rules refuse them. Each says by which rule.
-ghost use Rattle.std.specs.Prelude.{◌≡◌, ◌∷◌, ℕ, List, [], false, true};
+ghost use Rattle.std.specs.Prelude.{◌≡◌, ◌≤◌, ◌∷◌, IsTrue, ℕ, List, [], false, true};
 ghost use Rattle.lock_word.specs.declared.cause.Cause.{Cause};
 ghost use Rattle.lock_word.specs.declared.stage.Stage.TheVariants as stage;
 ghost use Rattle.lock_word.specs.declared.word.Word.{Word};
@@ -7,7 +7,7 @@ ghost use Rattle.script_text.specs.declared.answer.Answer.{Answer};
 ghost use Rattle.script_text.specs.declared.body.Body.{Body};
 ghost use Rattle.script_text.specs.declared.line.Line.{Line};
 ghost use Rattle.script_text.specs.declared.request.Request.{Request};
-ghost use Rattle.core_model.specs.Anchors.{opening_epoch};
+ghost use Rattle.core_model.specs.Anchors.{opening_counter, opening_epoch};
 ghost use Rattle.line_account.specs.Alone.{alone, home};
 ghost use Rattle.line_account.specs.Answers.{Run};
 ghost use Rattle.line_account.specs.Closing.{LineIn, Worker};
@@ -48,6 +48,23 @@ pub fn nothing_is_evicted_that_was_not_whole<X>()
         → KeepsRules r script (u ∷ w ∷ []) → u.served ≡ [] then p → w.served ≡ [] then g → opening_epoch r.setting (home r url) ≡ 0
         → p.asked.request ≡ Request.Put url body → p.answer ≡ Answer.Doomed x → g.asked.request ≡ Request.Get url
         → g.answer ≡ Answer.Miss (Cause.Absent (record { version = x; stage = stage.Gone; doom = false })) → ⊥ }
+{}
+
+/// `get` printed MISS absent at GONE, not doomed, with a version of the opening, in a run that fits: what the file had is not
+/// lost there unless a line purges or replaces it (`epochs.given_back_new`).
+pub fn nothing_of_the_file_is_lost_where_lines_fit<X>()
+    ensures { (r : Run X) (script : List Line) (u w : Worker X) (g : Served) (url : List ℕ) (x : ℕ)
+        → KeepsRules r script (u ∷ w ∷ []) → IsTrue r.fits → w.served ≡ [] then g → x ≤ opening_counter r.setting
+        → g.asked.request ≡ Request.Get url
+        → g.answer ≡ Answer.Miss (Cause.Absent (record { version = x; stage = stage.Gone; doom = false })) → ⊥ }
+{}
+
+/// The same of an entry at FREEING, of which a `put` printed BUSY (`epochs.given_back_new`).
+pub fn nothing_of_the_file_is_freed_where_lines_fit<X>()
+    ensures { (r : Run X) (script : List Line) (u w : Worker X) (s : Served) (url : List ℕ) (body : Body) (held : Word) (x : ℕ)
+        → KeepsRules r script (u ∷ w ∷ []) → IsTrue r.fits → w.served ≡ [] then s → x ≤ opening_counter r.setting
+        → s.asked.request ≡ Request.Put url body → s.answer ≡ Answer.Busy held held
+        → held.epoch ≡ record { version = x; stage = stage.Freeing; doom = false } → ⊥ }
 {}
 
 /// All lines of a run, of however many workers, printed BUSY with the same words, at FREEING and not doomed: none of them came

@@ -269,8 +269,8 @@ pub fn lines_are_in_order<X>()
 {}
 
 /// An epoch at HALTED, FREEING or GONE that is not doomed comes only where the writing of its version was
-/// halted; or where some line is one of those that may evict an entry, and the version was whole: its
-/// writing printed STORED, or the anchor had it at the opening.
+/// halted; or where the run does not fit, some line is one of those that may evict an entry, and the version
+/// was whole: its writing printed STORED, or the anchor had it at the opening.
 pub fn entries_are_given_back_by_lines<X>()
     ensures { (r : Run X) (crew : List (Worker X)) (a e : ℕ) → Closed r crew → ShownIn r crew a e → IsUndoomed e
         → IsFromStage stage.Halted e → GivenBackIn r crew a (version_of e) }

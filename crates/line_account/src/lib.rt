@@ -13,13 +13,15 @@ mod rules;
 
 pub use absurd::{
     no_neighbour_is_purged, no_tab_changes_its_entry, nothing_dropped_is_hit,
-    nothing_is_hit_before_it_is_stored, nothing_is_opened_that_never_was,
-    nothing_is_purged_that_never_was, nothing_left_is_hit, nothing_too_large_is_stored,
+    nothing_is_full_where_lines_fit, nothing_is_hit_before_it_is_stored,
+    nothing_is_opened_that_never_was, nothing_is_purged_that_never_was, nothing_left_is_hit,
+    nothing_too_large_is_stored,
 };
 pub use absurd_epochs::{
     no_begun_version_is_at_empty, nothing_is_doomed_at_taken,
     nothing_is_evicted_that_was_not_whole, nothing_is_given_back_by_itself,
     nothing_is_given_back_by_refusals, nothing_is_given_back_that_never_was,
+    nothing_of_the_file_is_freed_where_lines_fit, nothing_of_the_file_is_lost_where_lines_fit,
 };
 pub use absurd_order::{
     no_stage_falls, nothing_comes_behind_an_end, nothing_comes_behind_another_url,

@@ -14,7 +14,7 @@ use crate::laws::{
     entries_are_stored_by_lines, entries_found_were_there, entries_given_whole_were_finished,
     epochs_have_versions, halted_entries_were_given_up, hit_versions_were_printed,
     hits_are_of_lines, keys_are_of_lines, lines_are_in_order, more_readers_come_from_others,
-    other_urls_have_the_key, parts_are_not_short, refusals_have_causes,
+    other_urls_have_the_key, parts_are_not_short, refusals_have_causes, runs_that_fit_lose_nothing,
     scripts_bound_what_is_offered, spent_numbers_have_bounds, tabs_stay_at_their_entries,
     versions_are_begun_by_one_line, versions_printed_alone_are_known,
 };
@@ -43,6 +43,7 @@ pub fn closed_crews_keep_the_rules<X>()
     other_urls_have_the_key::<X>();
     parts_are_not_short::<X>();
     refusals_have_causes::<X>();
+    runs_that_fit_lose_nothing::<X>();
     scripts_bound_what_is_offered::<X>();
     spent_numbers_have_bounds::<X>();
     tabs_stay_at_their_entries::<X>();

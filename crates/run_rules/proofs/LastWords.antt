@@ -1,5 +1,5 @@
 -- The words that stood in the last state of a store are explained by the lines of its workers.
-use Rattle.std.proofs.Common.{Bool, Contains, List, [], ap, arith, cond, eq-eqb, inl, inr, length, refl, subst, sym, true, ⊎_elim, ◌<◌, ◌∙◌, ◌∷◌, ◌≡◌, ◌≢◌, ◌≤◌, ◌⊎◌, ℕ}
+use Rattle.std.proofs.Common.{Bool, Contains, IsTrue, List, [], ap, arith, cond, eq-eqb, false, inl, inr, length, refl, subst, sym, true, ⊎_elim, ◌<◌, ◌∙◌, ◌∷◌, ◌≡◌, ◌≢◌, ◌≤◌, ◌⊎◌, ℕ}
 use Rattle.std.proofs.lemmas.List.{length-map}
 use Rattle.std.specs.Prelude.{get_or}
 use mathlib.Core.Option.{some, some-injective}
@@ -21,9 +21,11 @@ use Rattle.core_model.proofs.StepsKeepTabs.{deeds_have_tabs}
 use Rattle.line_account.specs.Accounts.{Account}
 use Rattle.line_account.specs.Answers.{Run}
 use Rattle.line_account.specs.Closing.{BegunIn, HaltedIn, LineIn, PurgedIn, PurgesVersion, StoredIn, Stores, Worker}
-use Rattle.line_account.specs.Deeds.{Begins, Halts, IsDeedOf, IsDeedOfEnd, IsWriting, MayEvict, Purges}
+use Rattle.line_account.specs.Deeds.{Begins, Evicts, Halts, IsDeedOf, IsDeedOfEnd, IsWriting, Purges}
 use Rattle.line_account.specs.Lines.{LineOf, Served}
 use Rattle.line_account.specs.Printed.{GivenBackIn, HadEntry, WasWhole}
+use Rattle.line_account.proofs.GivenWay.{gave_way}
+use Rattle.line_account.proofs.HaltedNew.{halted_new}
 use Rattle.rock_disk.specs.Cell.{CellState}
 use Rattle.rock_disk.specs.File.{Files}
 use Rattle.script_text.specs.declared.answer.Answer.{Answer}
@@ -161,17 +163,29 @@ module _ {X : Type 0} (r : Run X) (crew : List (Worker X)) (s : State X) (sound 
           had (inl q) = ⊎_elim (λ (z : stage_of (opening_epoch r.setting a) ≡ 0). absurd (omega arith)) (λ (z : stage_of (opening_epoch r.setting a) ≡ 3). z) (sound.anchors.setting.stage a lt)
           had (inr q) = q.1
 
+      -- a line evicted it, in a run that does not fit
+      evicting : IsDone s (EvictedVersion a (version_of (epoch_of (word s a)))) → LineIn crew (λ earlier line. Evicts r line)
+      evicting h = by_line (EvictedVersion a (version_of (epoch_of (word s a)))) (λ earlier line. Evicts r line)
+          (λ v d earlier line q o. o.evicted q.0 q.3 q.4)
+          (λ d served q o. absurd (let f = sym q.4 ∙ (o.changed q.0).1 in cc))
+          h
+
+      left_by : stage_of (epoch_of (word s a)) ≡ 6 → doom_of (epoch_of (word s a)) ≡ 0
+          → IsDone s (HaltedVersion a (version_of (epoch_of (word s a)))) ⊎ IsDone s (EvictedVersion a (version_of (epoch_of (word s a))))
+      left_by six undoomed = sound.anchors.deeds.undoomed a (epoch_of (word s a)) stands_there undoomed (omega arith)
+
       gone : stage_of (epoch_of (word s a)) ≡ 6 → doom_of (epoch_of (word s a)) ≡ 0 → GivenBackIn r crew a (version_of (epoch_of (word s a)))
       gone six undoomed = ⊎_elim
           (λ (h : IsDone s (HaltedVersion a (version_of (epoch_of (word s a))))). inl (halted a (version_of (epoch_of (word s a))) h))
-          (λ (h : IsDone s (EvictedVersion a (version_of (epoch_of (word s a))))). inr (
-            by_line (EvictedVersion a (version_of (epoch_of (word s a)))) (λ earlier line. MayEvict line.answer)
-                (λ v d earlier line q o. (o.evicted q.0 q.3 q.4).may)
-                (λ d served q o. absurd (let f = sym q.4 ∙ (o.changed q.0).1 in cc))
-                h,
-            whole (sym six) h,
-          ))
-          (sound.anchors.deeds.undoomed a (epoch_of (word s a)) stands_there undoomed (omega arith))
+          (λ (h : IsDone s (EvictedVersion a (version_of (epoch_of (word s a))))). inr (gave_way r crew a (version_of (epoch_of (word s a))) (evicting h) (whole (sym six) h)))
+          (left_by six undoomed)
+
+      -- in a run that fits it is none of the opening
+      gone_new : IsTrue r.fits → stage_of (epoch_of (word s a)) ≡ 6 → doom_of (epoch_of (word s a)) ≡ 0 → opening_counter r.setting < version_of (epoch_of (word s a))
+      gone_new fit six undoomed = ⊎_elim
+          (λ (h : IsDone s (HaltedVersion a (version_of (epoch_of (word s a))))). halted_new r.setting s sound a (version_of (epoch_of (word s a))) lt h)
+          (λ (h : IsDone s (EvictedVersion a (version_of (epoch_of (word s a))))). absurd (let f : true ≡ false = sym fit ∙ (evicting h).so.wants in cc))
+          (left_by six undoomed)
 
     pub last_words : AreLastWords r crew (word s)
     last_words = record {
@@ -192,6 +206,7 @@ module _ {X : Type 0} (r : Run X) (crew : List (Worker X)) (s : State X) (sound 
       stored = λ a lt high three. stored a (version_of (epoch_of (word s a))) (known_closed r.setting s sound a (epoch_of (word s a)) (stands_there a lt) high three ((c.finished a lt).closed three));
       purged = λ a lt doom. purged a (version_of (epoch_of (word s a))) (sound.anchors.deeds.doomed a (epoch_of (word s a)) (stands_there a lt) doom);
       given_back = λ a lt six undoomed. gone a lt six undoomed;
+      given_back_new = λ fit a lt six undoomed. gone_new a lt fit six undoomed;
     }
 
 -- The crew that explains a run stands in the last state of its store.

@@ -3,7 +3,9 @@ mod Scripts
 mod Files
 mod Zero
 mod Refused
+mod Full
 mod Crews
+mod Fitting
 mod Opened
 mod Numbers
 mod EntriesLeft

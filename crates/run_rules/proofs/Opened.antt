@@ -33,6 +33,7 @@ use Rattle.run_rules.specs.Openings.{BeganWithFile}
 use Rattle.run_rules.specs.Runs.{IsExplained}
 use Rattle.run_rules.proofs.Crews.{are_counted, have_courses, met, printed}
 use Rattle.run_rules.proofs.Files.{OldWinner}
+use Rattle.run_rules.proofs.Fitting.{OneWinner, fits_is}
 use Rattle.run_rules.proofs.Lists.{at_place, both}
 use Rattle.run_rules.proofs.Zero.{zero_empty}
 
@@ -106,6 +107,7 @@ module _ {C St : Type 0} (volume_tells told : Bool) (state : C → CellState) (f
   pub record Laws : Type 0 where
     pub past : HasPast told state offers_of slot anchors h.closed.opened.cells h.closed.store
     pub opening : OpenedAsKept told state g slot anchors h.closed.opened.cells
+    pub one : OneWinner
     pub closes : (past : Past) → IsTold g told past told → HasClosing {C = C} {O = List Line} {St = St} (run_of g told past) script accounts
     pub keeps : (r : Run (List ℕ)) (crew : List (Worker (List ℕ))) → ClosedCrew r crew → ServesScript script crew → HaveCourses r crew → KeepsRules r script crew
     pub counts : (a : Account (OnShelf C (List Line) St)) → HasSteps told state offers_of faults a → min (faults a.start.station + fault_answers a) (2 ^ 64 - 1) ≤ faults a.end.station
@@ -126,6 +128,9 @@ module _ {C St : Type 0} (volume_tells told : Bool) (state : C → CellState) (f
     pub above_none : 0 < anchors
     above_none = let from = h.closed.opened.fit.from in omega (arith, from)
 
+    slots_there : 0 < length laws.opening.kept.images
+    slots_there = let fit = h.closed.opened.fit in let from = fit.from in let to = fit.to in let many = laws.opening.kept.many in omega (arith, from, to, many)
+
     unfoldable pub explained : IsExplained volume_tells files name slot anchors workers script answers before after
     explained = record {
       run = r;
@@ -141,6 +146,8 @@ module _ {C St : Type 0} (volume_tells told : Bool) (state : C → CellState) (f
       slots_are = h.closed.opened.store.slots_are ∙ sym laws.opening.kept.many;
       anchors_are = h.closed.opened.store.anchors_are;
       began = began told state g laws.past.past slot anchors h.closed.opened.cells laws.opening laws.past.winners;
+      fits_is = fits_is told state g slot anchors script h.closed.opened.cells laws.opening laws.one h.closed.opened.store.anchors_are h.closed.opened.store.slot_is
+          (h.closed.opened.store.slots_are ∙ sym laws.opening.kept.many) h.closed.opened.store.offers_are slots_there;
       count = length-map closing.courses worker_of ∙ closing.count ∙ as_many;
       serves = closing.serves;
       printed = printed r script accounts closing answers h.served.played.answers_are;

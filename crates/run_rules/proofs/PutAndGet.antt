@@ -171,6 +171,7 @@ module _ {X : Type 0} (r : Run X) (url : List ℕ) (m : MayBegin r url) (w : Wor
         (λ (q : answer.Hit x [] ≡ answer.Doomed h.version). let z : ⊥ = cc in z)
         h.printed))
         (λ h offers many. nothing_is_small u body (subst (λ (f : Served). Offers f.asked.request u body) (sym (one_served put first h.begun_is)) offers) many) p o;
+    full = λ fit p. never (λ earlier s. s.answer ≡ answer.Full) (λ h. let k : answer.Hit x [] ≡ answer.Full = h in cc) (λ h. let k : answer.Stored x ≡ answer.Full = h in cc) p;
     other = λ tells u p. absurd (never (λ earlier s. PrintsOther earlier s u) (λ h. let k : answer.Hit x [] ≡ answer.OtherUrl = h.printed in cc) (λ h. let k : answer.Stored x ≡ answer.OtherUrl = h.printed in cc) p);
     cause = λ cause p. absurd (never (λ earlier s. Refuses s.answer cause) (λ h. h) (λ h. h) p);
   }
@@ -285,6 +286,7 @@ module _ {X : Type 0} (r : Run X) (url : List ℕ) (m : MayBegin r url) (w : Wor
     purged = λ e p. absurd (never (λ earlier s. s.answer ≡ answer.Purged e) (λ h. let k : answer.Hit x [] ≡ answer.Purged e = h in cc) (λ h. let k : answer.Stored x ≡ answer.Purged e = h in cc) p);
     purged_stage = λ e p. absurd (never (λ earlier s. s.answer ≡ answer.Purged e) (λ h. let k : answer.Hit x [] ≡ answer.Purged e = h in cc) (λ h. let k : answer.Stored x ≡ answer.Purged e = h in cc) p);
     given_back = λ b e p undoomed four. absurd (let s = (shown b e p).1 in omega arith);
+    given_back_new = λ fit b e p undoomed four. absurd (let s = (shown b e p).1 in omega arith);
   }
 
   found_at : (y : ℕ) → x ≡ y → FoundAt (epoch_at x 3) y

@@ -1,5 +1,5 @@
 -- The words of the anchors at the end of a run, when all lines had been served and the store was closed. They are not printed.
-use Rattle.std.specs.Prelude.{List, ◌<◌, ◌≡◌, ◌≤◌, ◌⊎◌, ℕ}
+use Rattle.std.specs.Prelude.{IsTrue, List, ◌<◌, ◌≡◌, ◌≤◌, ◌⊎◌, ℕ}
 use Rattle.lock_word.specs.Words.{epoch_of, stage_of, version_of}
 use Rattle.core_model.specs.Anchors.{opening_counter, opening_epoch}
 use Rattle.core_model.specs.Holders.{IsFinished}
@@ -40,6 +40,9 @@ module _ {X : Type 0} (r : Run X) (crew : List (Worker X)) (last : ℕ → ℕ) 
         → StoredIn r crew a (last_version a)
     -- A doomed one was purged by a line.
     pub purged : (a : ℕ) → a < r.setting.anchors → IsDoomed (last_epoch a) → PurgedIn r crew a (last_version a)
-    -- One at GONE that is not doomed was given up in its writing, or it was whole and some line may have evicted it.
+    -- One at GONE that is not doomed was given up in its writing; or the run does not fit, it was whole, and some line may have evicted it.
     pub given_back : (a : ℕ) → a < r.setting.anchors → IsAtStage Gone (last_epoch a) → IsUndoomed (last_epoch a)
         → GivenBackIn r crew a (last_version a)
+    -- In a run that fits it is none of the opening: the file's entries stand, but where lines purged or replaced them.
+    pub given_back_new : IsTrue r.fits → (a : ℕ) → a < r.setting.anchors → IsAtStage Gone (last_epoch a) → IsUndoomed (last_epoch a)
+        → opening_counter r.setting < last_version a

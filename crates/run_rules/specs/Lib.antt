@@ -1,5 +1,6 @@
 pub mod Responses
 pub mod Openings
+pub mod Fitting
 pub mod Printed
 pub mod Runs
 pub mod Last

@@ -1,5 +1,5 @@
 -- What a run over a file prints, by the rules of lines, by its file and by its script.
-use Rattle.std.specs.Prelude.{Bool, IsTrue, List, Some, [], count_by, length, map, min, take, ◌+◌, ◌++◌, ◌-◌, ◌∷◌, ◌^◌, ◌≡◌, ◌≤◌, ℕ}
+use Rattle.std.specs.Prelude.{Bool, IsTrue, List, Some, [], count_by, length, map, min, take, ◌+◌, ◌++◌, ◌-◌, ◌∷◌, ◌^◌, ◌↔◌, ◌≡◌, ◌≤◌, ℕ}
 use Rattle.std.specs.FinMap.{get}
 use mathlib.Core.Option.{some}
 use lib.ListN.{get_elem?}
@@ -19,6 +19,7 @@ use Rattle.worker_pool.specs.Courses.{lines_of}
 use Rattle.store_serve.specs.Answers.{is_fault}
 use Rattle.worker_shelf.specs.Playing.{answer_to_await}
 use Rattle.rock_run.specs.Device.{HasEnded}
+use Rattle.run_rules.specs.Fitting.{FitsInto}
 use Rattle.run_rules.specs.Openings.{BeganWithFile}
 use Rattle.lock_word.specs.declared.stage.Stage.TheVariants.{Empty}
 use Rattle.line_account.specs.EpochNames.{IsAtStage, IsUndoomed}
@@ -74,6 +75,8 @@ pub record IsExplained (tells : Bool) (files : Files) (name : List ℕ) (slot an
   pub anchors_are : run.setting.anchors ≡ anchors
   -- each anchor had what a rebuild of the file keeps there
   pub began : BeganWithFile run slot anchors images
+  -- the run fits exactly where the script fits into the file
+  pub fits_is : IsTrue run.fits ↔ FitsInto slot anchors images script
   -- there is one answer for each line of the script, workers in order, and the lines of each in order
   pub count : length crew ≡ workers
   -- the lines of each worker are its lines of the script, in their order

@@ -6,6 +6,7 @@ use Rattle.script_text.specs.declared.line.Line.{Line}
 use Rattle.rock_disk.specs.Counts.{Counts}
 use Rattle.run_rules.specs.Last.{AreLastWords}
 use Rattle.run_rules.specs.Plain.{EndedPlainly, IsAnsweredPlainly, NoneFailedServing}
+use Rattle.run_rules.specs.Printed.{AreKeysOfWinners, AreResponses}
 use Rattle.run_rules.specs.Runs.{IsExplained}
 use Rattle.run_rules.specs.Standing.{LeavesStanding}
 
@@ -14,6 +15,11 @@ pub record WasServed (tells : Bool) (before after : Files) (name : List ℕ) (sl
     (answers : List (List (ℕ × Answer))) (counts_before counts_after : Counts) : Type 0 where
   -- The answers are explained by what the workers did.
   pub explained : IsExplained tells before name slot anchors workers script answers counts_before counts_after
+  -- Each HIT is byte for byte one stored response under its URL, of the file or of a line of the script, and what a reader was given of
+  -- one that grows are the first bytes of one.
+  pub responses : IsTrue tells → AreResponses explained.run slot anchors explained.images script explained.crew
+  -- Keys that are printed and found of versions of the opening are those of the file's winners.
+  pub keys : AreKeysOfWinners explained.run slot anchors explained.images script explained.crew
   -- So are the words at which the anchors stood at last.
   pub last : ℕ → ℕ
   -- They are explained by the same workers.

@@ -1,5 +1,7 @@
 //! Examples: what no run prints, for it is not explained.
-ghost use Rattle.std.specs.Prelude.{Bool, List, [], false, ◌+◌, ◌++◌, ◌∷◌, ◌≡◌, ℕ};
+ghost use Rattle.std.specs.Prelude.{Bool, Contains, List, [], false, ◌+◌, ◌++◌, ◌∷◌, ◌≡◌, ℕ};
+ghost use lib.ListN.{get_elem?};
+ghost use mathlib.Core.Option.{some};
 ghost use Rattle.lock_word.specs.declared.stage.Stage.TheVariants as stage;
 ghost use Rattle.lock_word.specs.declared.word.Word.{Word};
 ghost use Rattle.rock_disk.specs.File.{Files};
@@ -8,6 +10,7 @@ ghost use Rattle.script_text.specs.declared.body.Body.{Body};
 ghost use Rattle.script_text.specs.declared.line.Line.{Line};
 ghost use Rattle.script_text.specs.declared.request.Request.{Request};
 ghost use Rattle.rock_disk.specs.Counts.{Counts};
+ghost use Rattle.run_rules.specs.Fitting.{FitsInto};
 ghost use Rattle.run_rules.specs.Runs.{IsExplained};
 
 use line_account::nothing_is_given_back_by_refusals;
@@ -31,6 +34,14 @@ pub fn no_entry_has_version_0()
         → IsExplained tells files name slot anchors 1 (record { worker = 1; number = 1; request = Request.Put url body } ∷ [])
         (((1, Answer.Busy held held) ∷ []) ∷ []) before after
         → held.epoch ≡ record { version = 0; stage = stage.Freeing; doom = false } → ⊥ }
+{}
+
+/// A line printed FULL though the script fits into the file (`fits_is` of `IsExplained`, with `rules.answers.full`).
+pub fn nothing_is_full_where_the_script_fits()
+    ensures { (tells : Bool) (files : Files) (name : List ℕ) (slot anchors workers : ℕ) (script : List Line)
+        (answers : List (List (ℕ × Answer))) (before after : Counts) (j number : ℕ) (mine : List (ℕ × Answer))
+        → (e : IsExplained tells files name slot anchors workers script answers before after)
+        → FitsInto slot anchors e.images script → get_elem? answers j ≡ some mine → Contains mine (number, Answer.Full) → ⊥ }
 {}
 
 /// Two workers' `put` of a URL printed BUSY with the same words, those of an entry at FREEING that is not doomed and that nobody reads, as

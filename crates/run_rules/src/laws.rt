@@ -24,7 +24,7 @@ use plain_runs::{
     closed_words_are_plain, lone_runs_are_plain, new_passes_show_plain_stores,
     whole_entries_stand_closed,
 };
-use rebuild_model::one_entry_at_a_slot;
+use rebuild_model::{one_entry_at_a_slot, one_winner_at_an_anchor};
 use rock_disk::{Cell, Station, opened_slots_are_wide_and_few};
 use rock_io::Octets;
 use rock_run::ScriptOrigin;
@@ -45,6 +45,7 @@ pub fn runs_keep_the_rules<C: Cell, St: Station<C = C>>()
     opened_stores_have_runs::<C, ScriptOrigin>();
     closed_crews_keep_the_rules::<Octets>();
     idle_stores_are_settled::<Octets>();
+    one_winner_at_an_anchor();
 }
 
 /// A run of one worker over a file that the volume tells, whose station met no fault, is answered as by a plain store that

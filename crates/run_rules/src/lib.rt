@@ -5,7 +5,6 @@
 
 mod absurd;
 mod crashes;
-mod file;
 mod lawful;
 mod laws;
 mod served;
@@ -13,9 +12,9 @@ mod standing;
 
 pub use absurd::{
     no_entry_has_version_0, no_fault_comes_of_no_call, no_winner_is_freed_by_refusals,
+    nothing_is_full_where_the_script_fits,
 };
 pub use crashes::closed_runs_leave_responses;
-pub use file::explained_lines_are_responses;
 pub use lawful::a_put_and_a_get_keep_the_rules;
 pub use laws::{
     each_line_has_one_answer, lone_runs_are_answered_plainly, read_lines_are_numbered,

@@ -93,7 +93,7 @@ module _ {X : Type 0} {g : Ground X} {t : ℕ} {n : Naming} where
   raised_names v linked w names (inr k) = subst (λ (z : View X). HasNames n z.seen) (sym k.same) names
 
   flushed_counts : {hand after : ℕ} {durable : Bool} {v w : View X} → HasEntry t n v → Flushed g t hand durable v w after → Counts t n w × HasNames n w.seen
-  flushed_counts {hand} {after} {durable} {v} {w} h k = let first = has_both g t n h k.both in let second = wrote_one g t n {P = OfReserving} first.entry k.wrote.wrote in
+  flushed_counts {hand} {after} {durable} {v} {w} h k = let first = has_both g t n h k.both in let second = wrote_one g t n {P = OfReserving g} first.entry k.wrote.wrote in
       let entry = published_tab k.slot (Some k.next) k.wrote.written k.linked second.entry k.wrote.publishes in (
         raised_counts v k.linked w entry (published_counts k.slot (Some k.next) k.wrote.written k.linked second.entry k.wrote.publishes) k.raised,
         raised_names v k.linked w (published_names k.slot (Some k.next) k.wrote.written k.linked second.entry k.wrote.publishes) k.raised,

@@ -37,13 +37,13 @@ use Rattle.store_serve.proofs.ReaderDeeds as reading
 module _ {C O : Type 0} (tells : Bool) (state : C → CellState) (offers : O → Offers) (s : Store C O) (t : ℕ) where
   -- calls that took bytes, behind which the tab writes the entry still
   record TookSome (e : Entry) (p q : Pass C) : Type 0 where
-    acted : Acted None (OfPublishing (name_of (basis tells state offers s) e) (view q).seen) (view p) (view q)
+    acted : Acted None (OfPublishing (basis tells state offers s) (name_of (basis tells state offers s) e) (view q).seen) (view p) (view q)
     entry : HasEntry t (name_of (basis tells state offers s) e) (view q)
 
   -- what was done up to an earlier pass, as a later one knows of it
-  later : {v : View (List ℕ)} (e : Entry) (m q : Pass C) → Acted None (OfPublishing (name_of (basis tells state offers s) e) (view m).seen) v (view m) → ((x : Sight) → Contains (view m).seen x → Contains (view q).seen x)
-      → Acted None (OfPublishing (name_of (basis tells state offers s) e) (view q).seen) v (view m)
-  later e m q h f = wider (λ d x. publishing_on (name_of (basis tells state offers s) e) (view m).seen (view q).seen d f x) h
+  later : {v : View (List ℕ)} (e : Entry) (m q : Pass C) → Acted None (OfPublishing (basis tells state offers s) (name_of (basis tells state offers s) e) (view m).seen) v (view m) → ((x : Sight) → Contains (view m).seen x → Contains (view q).seen x)
+      → Acted None (OfPublishing (basis tells state offers s) (name_of (basis tells state offers s) e) (view q).seen) v (view m)
+  later e m q h f = wider (λ d x. publishing_on (basis tells state offers s) (name_of (basis tells state offers s) e) (view m).seen (view q).seen d f x) h
 
   same_seen : {p q : Pass C} → q ≡ p → KnowsAll (view p) (view q)
   same_seen e = grown.same (ap view e)
@@ -60,10 +60,10 @@ module _ {C O : Type 0} (tells : Bool) (state : C → CellState) (offers : O →
     took_all : {total : ℕ} → HasEntry t (name_of (basis tells state offers s) e) (view p) → Added tells state offers s t e p q total → TookSome e p q
     took_all {total} h k = took e p k.calls q total h k.took
 
-    pub added : {total : ℕ} → HasEntry t (name_of (basis tells state offers s) e) (view p) → Added tells state offers s t e p q total → Acted None (OfPublishing (name_of (basis tells state offers s) e) (view q).seen) (view p) (view q)
+    pub added : {total : ℕ} → HasEntry t (name_of (basis tells state offers s) e) (view p) → Added tells state offers s t e p q total → Acted None (OfPublishing (basis tells state offers s) (name_of (basis tells state offers s) e) (view q).seen) (view p) (view q)
     added h k = (took_all h k).acted
 
-    pub not_added : {fault : WriteFault} → HasEntry t (name_of (basis tells state offers s) e) (view p) → NotAdded tells state offers s t e p q fault → Acted None (OfGivingUp (name_of (basis tells state offers s) e) (view q).seen) (view p) (view q)
+    pub not_added : {fault : WriteFault} → HasEntry t (name_of (basis tells state offers s) e) (view p) → NotAdded tells state offers s t e p q fault → Acted None (OfGivingUp (basis tells state offers s) (name_of (basis tells state offers s) e) (view q).seen) (view p) (view q)
     not_added h k = let first = took e p k.calls k.middle k.total h k.took in
         let last = not_appended tells state offers s t (taken_on e k.total) first.entry k.stopped in
         on (wider (λ d x. inl x) (later e k.middle q first.acted last.keeps.seen)) (wider (λ d x. inr x) last)
@@ -72,17 +72,17 @@ module _ {C O : Type 0} (tells : Bool) (state : C → CellState) (offers : O →
     abbrev left : ℕ
     left = left_of tells state offers s t e p q
 
-    pub ended : {end : Ended} → HasEntry t (name_of (basis tells state offers s) e) (view p) → EndedWhole tells state offers s t e p q end → Acted None (OfEnding (name_of (basis tells state offers s) e) (view q).seen end) (view p) (view q)
+    pub ended : {end : Ended} → HasEntry t (name_of (basis tells state offers s) e) (view p) → EndedWhole tells state offers s t e p q end → Acted None (OfEnding (basis tells state offers s) (name_of (basis tells state offers s) e) (view q).seen end) (view p) (view q)
     ended h k = let first = took_all e p k.middle h k.added in
         let last = finished tells state offers s t (taken_on e left) first.entry k.finished in
         on (wider (λ d x. inl x) (later e k.middle q first.acted last.keeps.seen)) (wider (λ d x. inr x) last)
 
-    not_closed : {fault : WriteFault} → HasEntry t (name_of (basis tells state offers s) e) (view p) → NotClosed tells state offers s t e p q fault → Acted None (OfGivingUp (name_of (basis tells state offers s) e) (view q).seen) (view p) (view q)
+    not_closed : {fault : WriteFault} → HasEntry t (name_of (basis tells state offers s) e) (view p) → NotClosed tells state offers s t e p q fault → Acted None (OfGivingUp (basis tells state offers s) (name_of (basis tells state offers s) e) (view q).seen) (view p) (view q)
     not_closed h k = let first = took_all e p k.middle h k.added in
         let last = not_finished tells state offers s t (taken_on e left) first.entry k.stopped in
         on (wider (λ d x. inl x) (later e k.middle q first.acted last.keeps.seen)) (wider (λ d x. inr x) last)
 
-    pub not_ended : (fault : WriteFault) → HasEntry t (name_of (basis tells state offers s) e) (view p) → NotEnded tells state offers s t e p q fault → Acted None (OfGivingUp (name_of (basis tells state offers s) e) (view q).seen) (view p) (view q)
+    pub not_ended : (fault : WriteFault) → HasEntry t (name_of (basis tells state offers s) e) (view p) → NotEnded tells state offers s t e p q fault → Acted None (OfGivingUp (basis tells state offers s) (name_of (basis tells state offers s) e) (view q).seen) (view p) (view q)
     not_ended why h (inl k) = not_added e p q h k
     not_ended why h (inr k) = not_closed h k
 
@@ -91,16 +91,16 @@ module _ {C O : Type 0} (tells : Bool) (state : C → CellState) (offers : O →
     abbrev pub name_for : ℕ → Naming
     name_for version = name_of (basis tells state offers s) (begun tells state offers s t offer url durable p q version)
 
-    pub put : {end : Ended} → PutWhole tells state offers s t offer url durable p q end → Acted (Some (version_of end)) (OfPutting (name_for (version_of end)) (view q).seen end) (view p) (view q)
+    pub put : {end : Ended} → PutWhole tells state offers s t offer url durable p q end → Acted (Some (version_of end)) (OfPutting (basis tells state offers s) (name_for (version_of end)) (view q).seen end) (view p) (view q)
     put {end} h = let e = begun tells state offers s t offer url durable p h.middle h.version in
-        subst (λ (n : ℕ). Acted (Some n) (OfPutting (name_for n) (view q).seen end) (view p) (view q)) (sym h.ends.finished.version)
+        subst (λ (n : ℕ). Acted (Some n) (OfPutting (basis tells state offers s) (name_for n) (view q).seen end) (view p) (view q)) (sym h.ends.finished.version)
         (on (wider (λ d x. inl x) (began tells state offers s t h.began)) (wider (λ d x. inr x) (ended e h.middle q (entry_of tells state offers s t e h.began.writes) h.ends)))
 
-    pub gave_up : {fault : WriteFault} (h : GaveUpPut tells state offers s t offer url durable p q fault) → Acted (Some h.version) (OfPuttingInVain (name_for h.version) (view q).seen) (view p) (view q)
+    pub gave_up : {fault : WriteFault} (h : GaveUpPut tells state offers s t offer url durable p q fault) → Acted (Some h.version) (OfPuttingInVain (basis tells state offers s) (name_for h.version) (view q).seen) (view p) (view q)
     gave_up {fault} h = let e = begun tells state offers s t offer url durable p h.middle h.version in
         on (wider (λ d x. inl x) (began tells state offers s t h.began)) (wider (λ d x. inr x) (not_ended e h.middle q fault (entry_of tells state offers s t e h.began.writes) h.stopped))
 
-    pub not_put : (fault : PutFault) → NotPut tells state offers s t offer url durable p q fault → NotStoredBy (view p) (view q) name_for fault
+    pub not_put : (fault : PutFault) → NotPut tells state offers s t offer url durable p q fault → NotStoredBy (view p) (view q) (basis tells state offers s) name_for fault
     not_put (Begin why) h = not_taken (basis tells state offers s) t (anchor_for (basis tells state offers s) url) (view p) why (view q) h
     not_put (Write why) h = (h.version, gave_up h)
 

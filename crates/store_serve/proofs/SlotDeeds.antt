@@ -64,12 +64,12 @@ module _ {X : Type 0} {g : Ground X} where
           (ap Deed.pass (sym is), subst IsGone is (record { kind = refl; stage = z.2 }))
       by_kind false e d c = absurd (none_there d (subst (λ (xs : List Deed). Contains xs d) (h.quiet e).1 c))
 
-  pub evicted_one : {hand t slot after : ℕ} {v w : View X} → Evicted g hand v t slot w after → Acted None OfReserving v w
+  pub evicted_one : {hand t slot after : ℕ} {v w : View X} → Evicted g hand v t slot w after → Acted None (OfReserving g) v w
   evicted_one {hand} {t} {slot} {after} {v} {w} h = by_run h.went h.undrawn (λ d c. either d (subst (λ (xs : List Deed). Contains xs d) h.done c))
     where
-      either : (d : Deed) → Contains (deed_of v Raised (onward g.setting.anchors hand h.steps) h.kept.word false ∷ deed_of v Changed (onward g.setting.anchors hand h.steps) (evicted h.victim.word) true ∷ []) d → (d.pass ≡ v.pass) × OfReserving d
+      either : (d : Deed) → Contains (deed_of v Raised (onward g.setting.anchors hand h.steps) h.kept.word false ∷ deed_of v Changed (onward g.setting.anchors hand h.steps) (evicted h.victim.word) true ∷ []) d → (d.pass ≡ v.pass) × OfReserving g d
       either d (zero, lt, e) = (ap Deed.pass (sym e), inr (subst IsGone e (record { kind = refl; stage = h.kept.gone })))
-      either d (suc zero, lt, e) = (ap Deed.pass (sym e), inl (subst Evicts e (record { kind = refl; stage = at_five h.victim.word (idle_at h.victim.word h.victim.idle); was_idle = refl })))
+      either d (suc zero, lt, e) = (ap Deed.pass (sym e), inl (subst (Evicts g) e (record { kind = refl; stage = at_five h.victim.word (idle_at h.victim.word h.victim.idle); was_idle = refl; unfit = h.unfit })))
       either d (suc (suc k), lt, e) = absurd (omega arith)
 
   pub none_idle : {P : Deed → Type 0} {hand : ℕ} {v w : View X} → NoneIdle g hand v w → Acted None P v w

@@ -105,11 +105,11 @@ module _ {X : Type 0} (g : Ground X) (t a : ℕ) (v : View X) where
 -- To reserve slots, and to write and publish pieces.
 
 module _ {X : Type 0} {g : Ground X} {t hand : ℕ} {v : View X} where
-  by_either : (slot after : ℕ) (w : View X) → ByClaim g t hand v slot w after ⊎ ByEviction g t hand v slot w after → Acted None OfReserving v w
+  by_either : (slot after : ℕ) (w : View X) → ByClaim g t hand v slot w after ⊎ ByEviction g t hand v slot w after → Acted None (OfReserving g) v w
   by_either slot after w (inl h) = claimed h.claimed
   by_either slot after w (inr h) = on (all_taken h.none) (evicted_one h.evicted)
 
-  reserved : {slot after : ℕ} {w : View X} → Reserved g t hand v slot w after → Acted None OfReserving v w
+  reserved : {slot after : ℕ} {w : View X} → Reserved g t hand v slot w after → Acted None (OfReserving g) v w
   reserved {slot} {after} {w} h = by_either slot after w h.how
 
   ran_out : {P : Deed → Type 0} {w : View X} → RanOut g t hand v w → Acted None P v w
@@ -125,12 +125,12 @@ pub record WroteSome {X : Type 0} (t : ℕ) (n : Naming) (P : Deed → Type 0) (
   pub wrote : Wrote t n P v w
   pub names : HasNames n w.seen
 
-pub publishing_on : (n : Naming) (seen all : List Sight) (d : Deed) → ((x : Sight) → Contains seen x → Contains all x) → OfPublishing n seen d → OfPublishing n all d
-publishing_on n seen all d f (inl h) = inl (record { raised = h.raised; names = names_on h.names f })
-publishing_on n seen all d f (inr h) = inr h
+pub publishing_on : {X : Type 0} (g : Ground X) (n : Naming) (seen all : List Sight) (d : Deed) → ((x : Sight) → Contains seen x → Contains all x) → OfPublishing g n seen d → OfPublishing g n all d
+publishing_on g n seen all d f (inl h) = inl (record { raised = h.raised; names = names_on h.names f })
+publishing_on g n seen all d f (inr h) = inr h
 
 module _ {X : Type 0} (g : Ground X) (t : ℕ) (n : Naming) where
-  reserved_for : {hand slot after : ℕ} {v w : View X} → HasEntry t n v → Reserved g t hand v slot w after → Wrote t n OfReserving v w
+  reserved_for : {hand slot after : ℕ} {v w : View X} → HasEntry t n v → Reserved g t hand v slot w after → Wrote t n (OfReserving g) v w
   reserved_for {hand} {slot} {after} {v} {w} h k = record { acted = reserved k; entry = reserved_tab slot h k.tabs }
 
   ran_out_for : {P : Deed → Type 0} {hand : ℕ} {v w : View X} → HasEntry t n v → RanOut g t hand v w → Wrote t n P v w
@@ -139,17 +139,17 @@ module _ {X : Type 0} (g : Ground X) (t : ℕ) (n : Naming) where
   onto : {P : Deed → Type 0} {u v w : View X} → Wrote t n P u v → Wrote t n P v w → Wrote t n P u w
   onto h k = record { acted = on h.acted k.acted; entry = k.entry }
 
-  slot_for : (hand : ℕ) (v : View X) (slot : ℕ) (w : View X) (after : ℕ) → HasEntry t n v → SlotFor g t hand v slot w after → Wrote t n OfReserving v w
+  slot_for : (hand : ℕ) (v : View X) (slot : ℕ) (w : View X) (after : ℕ) → HasEntry t n v → SlotFor g t hand v slot w after → Wrote t n (OfReserving g) v w
   slot_for hand v slot w after h (inl k) = record { acted = same k.same; entry = same_view h k.same }
   slot_for hand v slot w after h (inr k) = reserved_for h k.reserved
 
-  pub has_both : {hand slot next after : ℕ} {v w : View X} → HasEntry t n v → HasBoth g t hand v slot next w after → Wrote t n OfReserving v w
+  pub has_both : {hand slot next after : ℕ} {v w : View X} → HasEntry t n v → HasBoth g t hand v slot next w after → Wrote t n (OfReserving g) v w
   has_both {hand} {slot} {next} {after} {v} {w} h k = let first = slot_for hand v slot k.middle k.hand_between h k.for_piece in onto first (reserved_for first.entry k.behind)
 
-  lacks_next : {hand after : ℕ} {v w : View X} → HasEntry t n v → LacksNext g t hand v w after → Wrote t n OfReserving v w
+  lacks_next : {hand after : ℕ} {v w : View X} → HasEntry t n v → LacksNext g t hand v w after → Wrote t n (OfReserving g) v w
   lacks_next {hand} {after} {v} {w} h k = let first = slot_for hand v k.slot k.middle after h k.for_piece in onto first (ran_out_for first.entry k.out)
 
-  ran_short : (hand : ℕ) (v w : View X) (after : ℕ) → HasEntry t n v → RanShort g t hand v w after → Wrote t n OfReserving v w
+  ran_short : (hand : ℕ) (v w : View X) (after : ℕ) → HasEntry t n v → RanShort g t hand v w after → Wrote t n (OfReserving g) v w
   ran_short hand v w after h (inl k) = ran_out_for h k.1.out
   ran_short hand v w after h (inr k) = lacks_next h k
 
@@ -162,31 +162,31 @@ module _ {X : Type 0} (g : Ground X) (t : ℕ) (n : Naming) where
     names = published_names slot next k.written w first.entry k.publishes;
   }
 
-  raised : (v linked w : View X) → HasEntry t n linked → HasNames n linked.seen → RaisedFirst g t v linked w ⊎ RaisedBefore g t v linked w → Wrote t n (OfPublishing n w.seen) linked w
+  raised : (v linked w : View X) → HasEntry t n linked → HasNames n linked.seen → RaisedFirst g t v linked w ⊎ RaisedBefore g t v linked w → Wrote t n (OfPublishing g n w.seen) linked w
   raised v linked w h names (inl k) = record {
     acted = raise_acted Appending h k.raises (omega arith) (omega arith) (inl (record { raised = raises Appending h k.raises (omega arith) (omega arith); names = names_on names (grown.by_step k.raises).seen }));
     entry = appending_tab h k.raises;
   }
   raised v linked w h names (inr k) = record { acted = same k.same; entry = same_view h k.same }
 
-  slots : {v w : View X} (seen : List Sight) → Wrote t n OfReserving v w → Wrote t n (OfPublishing n seen) v w
+  slots : {v w : View X} (seen : List Sight) → Wrote t n (OfReserving g) v w → Wrote t n (OfPublishing g n seen) v w
   slots seen h = record { acted = wider (λ d x. inr x) h.acted; entry = h.entry }
 
-  flushed : {hand after : ℕ} {durable : Bool} {v w : View X} → HasEntry t n v → Flushed g t hand durable v w after → Wrote t n (OfPublishing n w.seen) v w
+  flushed : {hand after : ℕ} {durable : Bool} {v w : View X} → HasEntry t n v → Flushed g t hand durable v w after → Wrote t n (OfPublishing g n w.seen) v w
   flushed {hand} {after} {durable} {v} {w} h k = let first = slots w.seen (has_both h k.both) in
-      let second = wrote_piece {P = OfPublishing n w.seen} first.entry k.wrote in
+      let second = wrote_piece {P = OfPublishing g n w.seen} first.entry k.wrote in
       onto (onto first second.wrote) (raised v k.linked w second.wrote.entry second.names k.raised)
 
-  not_flushed : (hand : ℕ) (durable : Bool) (v : View X) (fault : WriteFault) (w : View X) (after : ℕ) → HasEntry t n v → NotFlushed g t hand durable v fault w after → Wrote t n OfReserving v w
+  not_flushed : (hand : ℕ) (durable : Bool) (v : View X) (fault : WriteFault) (w : View X) (after : ℕ) → HasEntry t n v → NotFlushed g t hand durable v fault w after → Wrote t n (OfReserving g) v w
   not_flushed hand durable v Large w after h k = record { acted = same k.0; entry = same_view h k.0 }
   not_flushed hand durable v Full w after h k = ran_short hand v w after h k
   not_flushed hand durable v Fault w after h k = let first = has_both h k.both in onto first (wrote_one first.entry k.wrote)
 
-  wrote_last : {hand after : ℕ} {durable : Bool} {v w : View X} → HasEntry t n v → WroteLast g t hand durable v w after → WroteSome t n OfReserving v w
+  wrote_last : {hand after : ℕ} {durable : Bool} {v w : View X} → HasEntry t n v → WroteLast g t hand durable v w after → WroteSome t n (OfReserving g) v w
   wrote_last {hand} {after} {durable} {v} {w} h k = let first = slot_for hand v k.slot k.reserved after h k.for_piece in
-      let second = wrote_piece {P = OfReserving} first.entry k.wrote in record { wrote = onto first second.wrote; names = second.names }
+      let second = wrote_piece {P = OfReserving g} first.entry k.wrote in record { wrote = onto first second.wrote; names = second.names }
 
-  not_written_last : (hand : ℕ) (durable : Bool) (v : View X) (fault : WriteFault) (w : View X) (after : ℕ) → HasEntry t n v → NotWrittenLast g t hand durable v fault w after → Wrote t n OfReserving v w
+  not_written_last : (hand : ℕ) (durable : Bool) (v : View X) (fault : WriteFault) (w : View X) (after : ℕ) → HasEntry t n v → NotWrittenLast g t hand durable v fault w after → Wrote t n (OfReserving g) v w
   not_written_last hand durable v Large w after h k = absurd k
   not_written_last hand durable v Full w after h k = ran_out_for h k.1.out
   not_written_last hand durable v Fault w after h k = let first = slot_for hand v k.slot k.reserved after h k.for_piece in onto first (wrote_one first.entry k.wrote)
@@ -225,19 +225,19 @@ module _ {C O : Type 0} (tells : Bool) (state : C → CellState) (offers : O →
     entry_of {p} h = record { pass = pass_of p; below = h.rests.below; writes = subst (λ x. IsEntryOf (name_of (basis tells state offers s) e) x) (sym h.rests.is) (refl, refl, refl, refl, refl) }
 
     how : (bytes : List ℕ) (p q : Pass C) (count : ℕ) → HasEntry t (name_of (basis tells state offers s) e) (view p) → TookNone tells state offers s t e bytes p q count ⊎ TookHere tells state offers s t e bytes p q count ⊎ TookBehind tells state offers s t e bytes p q count
-        → Acted None (OfPublishing (name_of (basis tells state offers s) e) (view q).seen) (view p) (view q)
+        → Acted None (OfPublishing (basis tells state offers s) (name_of (basis tells state offers s) e) (view q).seen) (view p) (view q)
     how bytes p q count h (inl k) = same k.same
     how bytes p q count h (inr (inl k)) = same k.same
     how bytes p q count h (inr (inr k)) = (flushed (basis tells state offers s) t (name_of (basis tells state offers s) e) h k.flushed).acted
 
-    pub appended : {bytes : List ℕ} {p q : Pass C} {count : ℕ} → HasEntry t (name_of (basis tells state offers s) e) (view p) → Appended tells state offers s t e bytes p q count → Acted None (OfPublishing (name_of (basis tells state offers s) e) (view q).seen) (view p) (view q)
+    pub appended : {bytes : List ℕ} {p q : Pass C} {count : ℕ} → HasEntry t (name_of (basis tells state offers s) e) (view p) → Appended tells state offers s t e bytes p q count → Acted None (OfPublishing (basis tells state offers s) (name_of (basis tells state offers s) e) (view q).seen) (view p) (view q)
     appended {bytes} {p} {q} {count} h k = how bytes p q count h k.how
 
-    pub not_appended : {bytes : List ℕ} {p q : Pass C} {fault : WriteFault} → HasEntry t (name_of (basis tells state offers s) e) (view p) → NotAppended tells state offers s t e bytes p q fault → Acted None (OfRefusing e.anchor e.version) (view p) (view q)
+    pub not_appended : {bytes : List ℕ} {p q : Pass C} {fault : WriteFault} → HasEntry t (name_of (basis tells state offers s) e) (view p) → NotAppended tells state offers s t e bytes p q fault → Acted None (OfRefusing (basis tells state offers s) e.anchor e.version) (view p) (view q)
     not_appended {bytes} {p} {q} {fault} h k = let first = not_flushed (basis tells state offers s) t (name_of (basis tells state offers s) e) p.hand e.is_durable (view p) fault k.middle q.hand h k.stopped in
         on (wider (λ d x. inl x) first.acted) (wider (λ d x. inr x) (halts (basis tells state offers s) t (name_of (basis tells state offers s) e) first.entry k.halts))
 
-    pub finished : {p q : Pass C} {ended : Ended} → HasEntry t (name_of (basis tells state offers s) e) (view p) → Finished tells state offers s t e p q ended → Acted None (OfClosing (name_of (basis tells state offers s) e) (view q).seen ended) (view p) (view q)
+    pub finished : {p q : Pass C} {ended : Ended} → HasEntry t (name_of (basis tells state offers s) e) (view p) → Finished tells state offers s t e p q ended → Acted None (OfClosing (basis tells state offers s) (name_of (basis tells state offers s) e) (view q).seen ended) (view p) (view q)
     finished {p} {q} {ended} h k = let first = wrote_last (basis tells state offers s) t (name_of (basis tells state offers s) e) h k.wrote in
         let parts = parted (basis tells state offers s) t (name_of (basis tells state offers s) e) k.parted in
         let names : HasNames (name_of (basis tells state offers s) e) (view q).seen = names_on first.names (λ x c. parts.keeps.seen x ((grown.by_step k.closes).seen x c)) in
@@ -245,6 +245,6 @@ module _ {C O : Type 0} (tells : Bool) (state : C → CellState) (offers : O →
         (inl (record { raised = record { raised = raises Closed first.wrote.entry k.closes (omega arith) (omega arith); names = names }; answered = k.version; doomed = k.doomed }))))
         (wider (λ d x. inr (inr x)) parts)
 
-    pub not_finished : {p q : Pass C} {fault : WriteFault} → HasEntry t (name_of (basis tells state offers s) e) (view p) → NotFinished tells state offers s t e p q fault → Acted None (OfRefusing e.anchor e.version) (view p) (view q)
+    pub not_finished : {p q : Pass C} {fault : WriteFault} → HasEntry t (name_of (basis tells state offers s) e) (view p) → NotFinished tells state offers s t e p q fault → Acted None (OfRefusing (basis tells state offers s) e.anchor e.version) (view p) (view q)
     not_finished {p} {q} {fault} h k = let first = not_written_last (basis tells state offers s) t (name_of (basis tells state offers s) e) p.hand e.is_durable (view p) fault k.middle q.hand h k.stopped in
         on (wider (λ d x. inl x) first.acted) (wider (λ d x. inr x) (halts (basis tells state offers s) t (name_of (basis tells state offers s) e) first.entry k.halts))

@@ -8,7 +8,7 @@ use Rattle.core_model.specs.declared.view.Sight.{Sight}
 use Rattle.core_model.specs.declared.view.Sight.TheVariants.{Named}
 use Rattle.store_key.specs.Anchor.{back_half, front_half}
 use Rattle.store_key.specs.Key.{key_of}
-use Rattle.store_rule.specs.Ground.{Ground}
+use Rattle.store_rule.specs.Ground.{Ground, fits}
 use Rattle.rock_writer.specs.declared.fault.Ended.{Ended}
 use Rattle.rock_writer.specs.Entries.{Entry, url_in}
 use Rattle.rock_writer.specs.Finishing.{is_doomed, version_of}
@@ -77,11 +77,12 @@ pub record Dooms (a epoch : ℕ) (d : Deed) : Type 0 where
   pub epoch_is : d.epoch ≡ epoch
   pub doomed : doom_of d.epoch ≡ 1
 
--- an idle entry began to be freed, for a slot
-pub record Evicts (d : Deed) : Type 0 where
+-- an idle entry began to be freed, for a slot that was wanting, in a store that does not fit
+pub record Evicts {X : Type 0} (g : Ground X) (d : Deed) : Type 0 where
   pub kind : d.kind ≡ Changed
   pub stage : stage_of d.epoch ≡ 5
   pub was_idle : d.was_idle ≡ true
+  pub unfit : fits g ≡ false
 
 -- an entry began to be freed that its last user left over
 pub record FreesLeftOver (d : Deed) : Type 0 where
@@ -95,8 +96,8 @@ pub record IsGone (d : Deed) : Type 0 where
   pub stage : stage_of d.epoch ≡ 6
 
 -- what may come of reserving a slot, and of leaving an entry
-abbrev pub OfReserving : Deed → Type 0
-OfReserving d = Evicts d ⊎ IsGone d
+abbrev pub OfReserving : {X : Type 0} → Ground X → Deed → Type 0
+OfReserving g d = Evicts g d ⊎ IsGone d
 
 abbrev pub OfLeaving : Deed → Type 0
 OfLeaving d = FreesLeftOver d ⊎ IsGone d
@@ -106,20 +107,20 @@ abbrev pub OfBeginning : (a version : ℕ) → Deed → Type 0
 OfBeginning a version d = Takes a version d ⊎ IsGone d
 
 -- of publishing its slots, which lets it be read from the first one on
-abbrev pub OfPublishing : Naming → List Sight → Deed → Type 0
-OfPublishing n seen d = RaisesPublished 2 n seen d ⊎ OfReserving d
+abbrev pub OfPublishing : {X : Type 0} → Ground X → Naming → List Sight → Deed → Type 0
+OfPublishing g n seen d = RaisesPublished 2 n seen d ⊎ OfReserving g d
 
 -- of giving it up
 abbrev pub OfHalting : (a version : ℕ) → Deed → Type 0
 OfHalting a version d = RaisesTo 4 a version d ⊎ OfLeaving d
 
 -- where a slot of it could not be published
-abbrev pub OfRefusing : (a version : ℕ) → Deed → Type 0
-OfRefusing a version d = OfReserving d ⊎ OfHalting a version d
+abbrev pub OfRefusing : {X : Type 0} → Ground X → (a version : ℕ) → Deed → Type 0
+OfRefusing g a version d = OfReserving g d ⊎ OfHalting a version d
 
 -- of writing its last slot and closing it
-abbrev pub OfClosing : Naming → List Sight → Ended → Deed → Type 0
-OfClosing n seen ended d = Closes n seen ended d ⊎ OfReserving d ⊎ OfLeaving d
+abbrev pub OfClosing : {X : Type 0} → Ground X → Naming → List Sight → Ended → Deed → Type 0
+OfClosing g n seen ended d = Closes n seen ended d ⊎ OfReserving g d ⊎ OfLeaving d
 
 -- of coming to an entry at the anchor and leaving it
 abbrev pub OfVisiting : (a : ℕ) → Deed → Type 0
@@ -130,15 +131,15 @@ abbrev pub OfPurging : (a epoch : ℕ) → Deed → Type 0
 OfPurging a epoch d = Dooms a epoch d ⊎ OfVisiting a d
 
 -- Of several calls, one behind the other: bytes were appended, and the entry was given up then, or closed;
-abbrev pub OfGivingUp : Naming → List Sight → Deed → Type 0
-OfGivingUp n seen d = OfPublishing n seen d ⊎ OfRefusing n.anchor n.version d
+abbrev pub OfGivingUp : {X : Type 0} → Ground X → Naming → List Sight → Deed → Type 0
+OfGivingUp g n seen d = OfPublishing g n seen d ⊎ OfRefusing g n.anchor n.version d
 
-abbrev pub OfEnding : Naming → List Sight → Ended → Deed → Type 0
-OfEnding n seen ended d = OfPublishing n seen d ⊎ OfClosing n seen ended d
+abbrev pub OfEnding : {X : Type 0} → Ground X → Naming → List Sight → Ended → Deed → Type 0
+OfEnding g n seen ended d = OfPublishing g n seen d ⊎ OfClosing g n seen ended d
 
 -- and it was begun before that.
-abbrev pub OfPutting : Naming → List Sight → Ended → Deed → Type 0
-OfPutting n seen ended d = OfBeginning n.anchor n.version d ⊎ OfEnding n seen ended d
+abbrev pub OfPutting : {X : Type 0} → Ground X → Naming → List Sight → Ended → Deed → Type 0
+OfPutting g n seen ended d = OfBeginning n.anchor n.version d ⊎ OfEnding g n seen ended d
 
-abbrev pub OfPuttingInVain : Naming → List Sight → Deed → Type 0
-OfPuttingInVain n seen d = OfBeginning n.anchor n.version d ⊎ OfGivingUp n seen d
+abbrev pub OfPuttingInVain : {X : Type 0} → Ground X → Naming → List Sight → Deed → Type 0
+OfPuttingInVain g n seen d = OfBeginning n.anchor n.version d ⊎ OfGivingUp g n seen d

@@ -3,6 +3,7 @@ use Rattle.std.specs.Prelude.{Contains, None, Option, Some, ◌+◌, ◌≤◌, 
 use Rattle.lock_word.specs.Words.{version_limit}
 use Rattle.core_model.specs.declared.view.Kind.TheVariants.{Counted, Drew}
 use Rattle.core_model.specs.declared.view.View.{View}
+use Rattle.store_rule.specs.Ground.{Ground}
 use Rattle.rock_writer.specs.declared.fault.BeginFault.{BeginFault}
 use Rattle.rock_writer.specs.declared.fault.BeginFault.TheVariants.{Busy, LongUrl, Spent}
 use Rattle.store_serve.specs.declared.storing.PutFault.{PutFault}
@@ -31,6 +32,6 @@ module _ {X : Type 0} (v w : View X) where
   NotBegunBy (Spent versions) = CountedAll versions ⊎ DrewInVain versions
 
   -- A response was not stored: its entry was not begun; or it was, of some version, and was given up.
-  abbrev pub NotStoredBy : (name : ℕ → Naming) → PutFault → Type 0
-  NotStoredBy name (Begin why) = NotBegunBy why
-  NotStoredBy name (Write why) = (version : ℕ) × Acted (Some version) (OfPuttingInVain (name version) w.seen) v w
+  abbrev pub NotStoredBy : Ground X → (name : ℕ → Naming) → PutFault → Type 0
+  NotStoredBy g name (Begin why) = NotBegunBy why
+  NotStoredBy g name (Write why) = (version : ℕ) × Acted (Some version) (OfPuttingInVain g (name version) w.seen) v w

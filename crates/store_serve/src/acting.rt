@@ -44,13 +44,13 @@ pub fn writing_acts<C: Cell, O: Origin>()
         → Acted (Some version) (OfBeginning (anchor_for (basis C.tells C.state O.offers s) url) version) (view p) (view q) }
     ensures not_taken { (g : Ground (List ℕ)) (t a : ℕ) (v w : View (List ℕ)) (fault : BeginFault) → NotTaken g t a v fault w → NotBegunBy v w fault }
     ensures appended { (s : Store C O) (t count : ℕ) (e : Entry) (bytes : List ℕ) (p q : Pass C) → WritesAs C.tells C.state O.offers s p t e
-        → Appended C.tells C.state O.offers s t e bytes p q count → Acted None (OfPublishing (name_of (basis C.tells C.state O.offers s) e) (view q).seen) (view p) (view q) }
+        → Appended C.tells C.state O.offers s t e bytes p q count → Acted None (OfPublishing (basis C.tells C.state O.offers s) (name_of (basis C.tells C.state O.offers s) e) (view q).seen) (view p) (view q) }
     ensures not_appended { (s : Store C O) (t : ℕ) (e : Entry) (bytes : List ℕ) (fault : WriteFault) (p q : Pass C) → WritesAs C.tells C.state O.offers s p t e
-        → NotAppended C.tells C.state O.offers s t e bytes p q fault → Acted None (OfRefusing e.anchor e.version) (view p) (view q) }
+        → NotAppended C.tells C.state O.offers s t e bytes p q fault → Acted None (OfRefusing (basis C.tells C.state O.offers s) e.anchor e.version) (view p) (view q) }
     ensures finished { (s : Store C O) (t : ℕ) (e : Entry) (ended : Ended) (p q : Pass C) → WritesAs C.tells C.state O.offers s p t e
-        → Finished C.tells C.state O.offers s t e p q ended → Acted None (OfClosing (name_of (basis C.tells C.state O.offers s) e) (view q).seen ended) (view p) (view q) }
+        → Finished C.tells C.state O.offers s t e p q ended → Acted None (OfClosing (basis C.tells C.state O.offers s) (name_of (basis C.tells C.state O.offers s) e) (view q).seen ended) (view p) (view q) }
     ensures not_finished { (s : Store C O) (t : ℕ) (e : Entry) (fault : WriteFault) (p q : Pass C) → WritesAs C.tells C.state O.offers s p t e
-        → NotFinished C.tells C.state O.offers s t e p q fault → Acted None (OfRefusing e.anchor e.version) (view p) (view q) }
+        → NotFinished C.tells C.state O.offers s t e p q fault → Acted None (OfRefusing (basis C.tells C.state O.offers s) e.anchor e.version) (view p) (view q) }
     ensures halts { (s : Store C O) (t : ℕ) (e : Entry) (p q : Pass C) → WritesAs C.tells C.state O.offers s p t e
         → Halts (basis C.tells C.state O.offers s) t (view p) (view q) → Acted None (OfHalting e.anchor e.version) (view p) (view q) }
 {}
@@ -79,19 +79,19 @@ pub fn purging_acts<X>()
 /// the other.
 pub fn serving_acts<C: Cell, O: Origin>()
     ensures added { (s : Store C O) (t total : ℕ) (e : Entry) (p q : Pass C) → WritesAs C.tells C.state O.offers s p t e
-        → Added C.tells C.state O.offers s t e p q total → Acted None (OfPublishing (name_of (basis C.tells C.state O.offers s) e) (view q).seen) (view p) (view q) }
+        → Added C.tells C.state O.offers s t e p q total → Acted None (OfPublishing (basis C.tells C.state O.offers s) (name_of (basis C.tells C.state O.offers s) e) (view q).seen) (view p) (view q) }
     ensures not_added { (s : Store C O) (t : ℕ) (e : Entry) (fault : WriteFault) (p q : Pass C) → WritesAs C.tells C.state O.offers s p t e
-        → NotAdded C.tells C.state O.offers s t e p q fault → Acted None (OfGivingUp (name_of (basis C.tells C.state O.offers s) e) (view q).seen) (view p) (view q) }
+        → NotAdded C.tells C.state O.offers s t e p q fault → Acted None (OfGivingUp (basis C.tells C.state O.offers s) (name_of (basis C.tells C.state O.offers s) e) (view q).seen) (view p) (view q) }
     ensures ended { (s : Store C O) (t : ℕ) (e : Entry) (ended : Ended) (p q : Pass C) → WritesAs C.tells C.state O.offers s p t e
-        → EndedWhole C.tells C.state O.offers s t e p q ended → Acted None (OfEnding (name_of (basis C.tells C.state O.offers s) e) (view q).seen ended) (view p) (view q) }
+        → EndedWhole C.tells C.state O.offers s t e p q ended → Acted None (OfEnding (basis C.tells C.state O.offers s) (name_of (basis C.tells C.state O.offers s) e) (view q).seen ended) (view p) (view q) }
     ensures not_ended { (s : Store C O) (t : ℕ) (e : Entry) (fault : WriteFault) (p q : Pass C) → WritesAs C.tells C.state O.offers s p t e
-        → NotEnded C.tells C.state O.offers s t e p q fault → Acted None (OfGivingUp (name_of (basis C.tells C.state O.offers s) e) (view q).seen) (view p) (view q) }
+        → NotEnded C.tells C.state O.offers s t e p q fault → Acted None (OfGivingUp (basis C.tells C.state O.offers s) (name_of (basis C.tells C.state O.offers s) e) (view q).seen) (view p) (view q) }
     ensures put { (s : Store C O) (t offer : ℕ) (url : List ℕ) (durable : Bool) (ended : Ended) (p q : Pass C)
         → PutWhole C.tells C.state O.offers s t offer url durable p q ended
-        → Acted (Some (version_of ended)) (OfPutting (name_of (basis C.tells C.state O.offers s) (begun C.tells C.state O.offers s t offer url durable p q (version_of ended))) (view q).seen ended) (view p) (view q) }
+        → Acted (Some (version_of ended)) (OfPutting (basis C.tells C.state O.offers s) (name_of (basis C.tells C.state O.offers s) (begun C.tells C.state O.offers s t offer url durable p q (version_of ended))) (view q).seen ended) (view p) (view q) }
     ensures not_put { (s : Store C O) (t offer : ℕ) (url : List ℕ) (durable : Bool) (fault : PutFault) (p q : Pass C)
         → NotPut C.tells C.state O.offers s t offer url durable p q fault
-        → NotStoredBy (view p) (view q) (λ version. name_of (basis C.tells C.state O.offers s) (begun C.tells C.state O.offers s t offer url durable p q version)) fault }
+        → NotStoredBy (view p) (view q) (basis C.tells C.state O.offers s) (λ version. name_of (basis C.tells C.state O.offers s) (begun C.tells C.state O.offers s t offer url durable p q version)) fault }
     ensures went { (s : Store C O) (t : ℕ) (e : Standing) (bytes : List ℕ) (answer : More) (p q : Pass C)
         → WentOn C.tells C.state O.offers s t e p q bytes answer → Acted None NoDeed (view p) (view q) }
     ensures gave_some { (s : Store C O) (t : ℕ) (e : Standing) (bytes : List ℕ) (p q : Pass C)

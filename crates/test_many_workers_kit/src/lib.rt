@@ -12,4 +12,4 @@ pub use lines::{Asked, Kind, WORKERS, lines_about, script_of};
 pub use lying::{Liar, Lying, Veiled};
 pub use meetings::{Meeting, MeetingStation, Part};
 pub use offers::Offers;
-pub use rules::judge;
+pub use rules::{Judged, judge};

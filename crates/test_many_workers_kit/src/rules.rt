@@ -16,6 +16,19 @@ struct Told<'a> {
     begun: Vec<(u32, u32)>,
     /// The versions that were purged.
     purged: Vec<u32>,
+    /// Whether the slots of the file suffice for the most that each anchor ever holds.
+    fits: bool,
+    /// How many lines were answered FULL. The versions that they began are printed by none.
+    full: u32,
+}
+
+/// What was judged: the last answer of the first worker, how many lines were answered FULL, and how many showed an entry that
+/// was given back or given up, and not purged.
+#[derive(Drop)]
+pub struct Judged<'a> {
+    pub last: &'a str,
+    pub full: u32,
+    pub gave_way: u32,
 }
 
 /// The number of a line, what it asks, and its answer.
@@ -77,15 +90,43 @@ fn shown(answer: &str) -> Option<(u64, u64)> {
     }
 }
 
-/// Whether a request may have an answer of this name.
-fn may_answer(kind: Kind, name: &str) -> bool {
+/// Whether a request may have an answer of this name. In a script that fits none is answered FULL.
+fn may_answer(kind: Kind, name: &str, fits: bool) -> bool {
     match kind {
-        Kind::Put | Kind::Save => name == "STORED" || name == "DOOMED" || name == "BUSY",
+        Kind::Put | Kind::Save => {
+            name == "STORED" || name == "DOOMED" || name == "BUSY" || (name == "FULL" && !fits)
+        }
         Kind::Get => name == "HIT" || name == "PART" || name == "MISS",
         Kind::Purge => name == "PURGED" || name == "NONE",
         Kind::Mark => name == "MARKED",
         Kind::Await => name == "MET",
     }
+}
+
+/// How many slots of 512 bytes the response that the line of this number offers takes. A slot has room for 472 bytes, and
+/// metadata with the URL have 43.
+fn slots_for(number: u32) -> u64 {
+    let (length, _) = body_of(number);
+    (u64::from(length) + 43 + 471) / 472
+}
+
+/// Whether a script of these lines fits into a file of so many slots that has no entry.
+fn fits_into(alloc: Global, lines: &[Asked], anchors: u32, slots: u32) -> Result<bool, AllocError> {
+    let mut most = vec![in alloc; 0u64; anchors as usize]?;
+    for (number, asked) in (1u32..).zip(lines) {
+        if matches!(asked.kind, Kind::Put | Kind::Save) {
+            let url = url_of(alloc, *asked)?;
+            let anchor = anchor_of(&key_of(url.as_bytes()), anchors.max(1));
+            if let Some(held) = most.get_mut(anchor as usize) {
+                *held = (*held).max(slots_for(number));
+            }
+        }
+    }
+    let mut all: u64 = 0;
+    for held in &most {
+        all = all.wrapping_add(*held);
+    }
+    Ok(all <= u64::from(slots))
 }
 
 /// The numbers of the lines, and the lines: those of the first worker, then those of the second, and so on.
@@ -128,10 +169,12 @@ fn told_of<'a>(
     alloc: Global,
     lines: &'a [Asked],
     anchors: u32,
+    fits: bool,
     answers: &[Answered<'_>],
 ) -> Result<Told<'a>, Fail> {
     let mut begun: Vec<(u32, u32)> = Vec::new(alloc);
     let mut purged = Vec::new(alloc);
+    let mut full: u32 = 0;
     for Answered { number, answer, .. } in answers {
         let version = version_of(shown(answer).map_or(0, |(_, rank)| rank));
         match word(answer, 0) {
@@ -143,6 +186,7 @@ fn told_of<'a>(
                 begun.push((version, *number))?;
             }
             "PURGED" => purged.push(version)?,
+            "FULL" => full = full.wrapping_add(1),
             _ => {}
         }
     }
@@ -151,6 +195,8 @@ fn told_of<'a>(
         anchors,
         begun,
         purged,
+        fits,
+        full,
     })
 }
 
@@ -168,10 +214,10 @@ impl Told<'_> {
     }
 
     /// Whether an answer gives the whole body, or a first part of it, of the line that began this version, which was about
-    /// the same URL.
+    /// the same URL. What a line wrote that was answered FULL is never given whole.
     fn gives(&self, alloc: Global, one: Answered<'_>, version: u32) -> Result<bool, AllocError> {
         let Some((number, asked)) = self.beginning(version) else {
-            return Ok(false);
+            return Ok(word(one.answer, 0) == "PART" && self.full > 0);
         };
         let (length, letter) = body_of(number);
         let (name, first, count) = (
@@ -212,7 +258,7 @@ impl Told<'_> {
     /// Whether the key told is that of the line that began the version, and not that of the URL that is asked for.
     fn is_other(&self, alloc: Global, one: Answered<'_>, found: u64) -> Result<bool, AllocError> {
         let Some((_, asked)) = self.beginning(version_of(found)) else {
-            return Ok(false);
+            return Ok(self.full > 0);
         };
         let text = format!(in alloc; "KEY({})", url_of(alloc, asked)?)?;
         let mut key = Vec::new(alloc);
@@ -239,6 +285,17 @@ impl Told<'_> {
     fn was_purged(&self, rank: u64) -> bool {
         !is_doomed(rank) || self.purged.contains(&version_of(rank))
     }
+
+    /// Whether this epoch may be shown. In a script that fits no entry gives way, and none is given up, since no line is
+    /// answered FULL.
+    fn may_show(&self, rank: u64) -> bool {
+        self.was_purged(rank) && (!self.fits || !gave_way(rank))
+    }
+}
+
+/// Whether an entry at this epoch was given up or evicted, and not purged.
+fn gave_way(rank: u64) -> bool {
+    !is_doomed(rank) && stage_of(rank) >= 4
 }
 
 /// A writer is refused by the word that it looked at, which is the one that it found, or by another one that it found behind
@@ -259,25 +316,26 @@ fn broken(number: u32, answer: &str) -> Fail {
     Fail::new(format_args!("{number}: {answer}"))
 }
 
-/// Judges an answer. `seen` has the greatest epoch that the worker was shown at each anchor.
+/// Judges an answer, and tells whether it shows an entry that gave way. `seen` has the greatest epoch that the worker was
+/// shown at each anchor.
 fn judge_one(
     alloc: Global,
     told: &Told<'_>,
     one: Answered<'_>,
     seen: &mut [u64],
-) -> Result<(), Fail> {
+) -> Result<bool, Fail> {
     let Answered {
         number,
         asked,
         answer,
     } = one;
-    if !may_answer(asked.kind, word(answer, 0)) {
+    if !may_answer(asked.kind, word(answer, 0), told.fits) {
         return Err(broken(number, answer));
     }
     let Some((most, found)) = shown(answer) else {
-        return Ok(());
+        return Ok(false);
     };
-    if !told.allows(alloc, one, found)? || !told.was_purged(most) || !told.was_purged(found) {
+    if !told.allows(alloc, one, found)? || !told.may_show(most) || !told.may_show(found) {
         return Err(broken(number, answer));
     }
     let url = url_of(alloc, asked)?;
@@ -289,27 +347,32 @@ fn judge_one(
         return Err(Fail::new(format_args!("{number}: {answer} behind {before}")));
     }
     *before = (*before).max(found);
-    Ok(())
+    Ok(gave_way(most) || gave_way(found))
 }
 
-/// Judges what was printed, and answers what the first worker was answered at last.
+/// Judges what was printed of a run over a file of so many slots that had no entry.
 pub fn judge<'a>(
     alloc: Global,
     lines: &[Asked],
     anchors: u32,
+    slots: u32,
     printed: &'a str,
-) -> Result<&'a str, Fail> {
+) -> Result<Judged<'a>, Fail> {
     let answers = answers(alloc, lines, printed)?;
-    let told = told_of(alloc, lines, anchors, &answers)?;
+    let fits = fits_into(alloc, lines, anchors, slots)?;
+    let told = told_of(alloc, lines, anchors, fits, &answers)?;
     let mut seen = vec![in alloc; 0u64; anchors as usize]?;
     let mut worker: u32 = 0;
     let mut last = "";
+    let mut gave_way: u32 = 0;
     for one in &answers {
         if one.asked.worker != worker {
             seen.fill(0);
             worker = one.asked.worker;
         }
-        judge_one(alloc, &told, *one, &mut seen)?;
+        if judge_one(alloc, &told, *one, &mut seen)? {
+            gave_way = gave_way.wrapping_add(1);
+        }
         if worker == 1 {
             last = one.answer;
         }
@@ -317,5 +380,9 @@ pub fn judge<'a>(
     if word(last, 0) != "HIT" {
         return Err(Fail::new(last));
     }
-    Ok(last)
+    Ok(Judged {
+        last,
+        full: told.full,
+        gave_way,
+    })
 }

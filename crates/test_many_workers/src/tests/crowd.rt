@@ -12,20 +12,22 @@ use std::thread::Threads;
 use test_many_workers_kit::{WORKERS, judge, lines_about, script_of};
 use test_stories::Pipes;
 
-/// Runs such a script over a new file, with more slots than all workers hold at once, and judges what is printed. Another
-/// run finds what the first worker stored at last.
+/// Runs such a script over a new file of so many slots, and judges what is printed. Another run finds what the first worker
+/// stored at last. Tells how many lines were answered FULL, and how many showed an entry that gave way.
 fn crowds<R: Abort + Threads + Wait + Sync>(
     rt: &R,
     alloc: Global,
+    slots: u32,
     anchors: u32,
     urls: u32,
-) -> Result<(), Fail>
+) -> Result<(u32, u32), Fail>
     requires { 0 < urls }
 {
     let lines = lines_about(alloc, urls)?;
     let pipes = Pipes::new(alloc);
     let mut volume = MemVolume::new(alloc, Vec::new(alloc), Vec::new(alloc));
-    let made = call(rt, alloc, &mut volume, &pipes, "create db 512 512", b"")?;
+    let create = format!(in alloc; "create db 512 {slots}")?;
+    let made = call(rt, alloc, &mut volume, &pipes, create.as_str(), b"")?;
     assert_eq!(rt; made.status, Status::Done);
     let run = format!(in alloc; "run db 512 {anchors} {WORKERS}")?;
     let script = script_of(alloc, &lines)?;
@@ -34,7 +36,7 @@ fn crowds<R: Abort + Threads + Wait + Sync>(
     let Ok(printed) = std::str::from_utf8(&ended.printed) else {
         return Err(Fail::from("answers are text"));
     };
-    let last = judge(alloc, &lines, anchors, printed)?;
+    let judged = judge(alloc, &lines, anchors, slots, printed)?;
     let again = format!(in alloc; "run db 512 {anchors} 1")?;
     let ended = call(
         rt,
@@ -44,16 +46,18 @@ fn crowds<R: Abort + Threads + Wait + Sync>(
         again.as_str(),
         b"1 get http://a/00",
     )?;
-    let last = format!(in alloc; "1 1 {last}\n")?;
+    let last = format!(in alloc; "1 1 {}\n", judged.last)?;
     assert_eq!(rt; std::str::from_utf8(&ended.printed), Ok(last.as_str()));
-    Ok(())
+    Ok((judged.full, judged.gave_way))
 }
 
 #[test]
 fn workers_crowd_at_one_anchor(rt: HostRuntime) -> Result<(), Fail> {
     for turn in 0..4u32 {
         let _ = turn;
-        crowds(&rt, rt.alloc(), 1, 2)?;
+        let (full, gave_way) = crowds(&rt, rt.alloc(), 512, 1, 2)?;
+        assert_eq!(rt; full, 0);
+        assert_eq!(rt; gave_way, 0);
     }
     Ok(())
 }
@@ -62,7 +66,17 @@ fn workers_crowd_at_one_anchor(rt: HostRuntime) -> Result<(), Fail> {
 fn workers_crowd_at_32_anchors(rt: HostRuntime) -> Result<(), Fail> {
     for turn in 0..4u32 {
         let _ = turn;
-        crowds(&rt, rt.alloc(), 32, 64)?;
+        let (full, gave_way) = crowds(&rt, rt.alloc(), 512, 32, 64)?;
+        assert_eq!(rt; full, 0);
+        assert_eq!(rt; gave_way, 0);
     }
+    Ok(())
+}
+
+/// Forty slots do not suffice for 32 anchors, so entries give way.
+#[test]
+fn workers_crowd_in_a_small_file(rt: HostRuntime) -> Result<(), Fail> {
+    let (_, gave_way) = crowds(&rt, rt.alloc(), 40, 32, 64)?;
+    assert!(rt; gave_way > 0);
     Ok(())
 }

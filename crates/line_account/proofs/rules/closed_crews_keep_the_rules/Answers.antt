@@ -16,6 +16,7 @@ returns g c r script crew closed serves have = record {
     spent = λ n p. ((c.spent_numbers_have_bounds.ensures r crew n closed p).0, c.scripts_bound_what_is_offered.ensures.spent r script crew n closed serves p);
     large = λ first url body p o. c.refusals_have_causes.ensures.large r crew first url body closed p o;
     small = λ first url body p o. c.refusals_have_causes.ensures.small r crew first url body closed p o;
+    full = λ fit p. c.runs_that_fit_lose_nothing.ensures.full r crew closed fit p;
     other = λ tells url p. c.other_urls_have_the_key.ensures r crew url closed tells p;
     cause = λ cause p. c.refusals_have_causes.ensures.cause r crew cause closed p;
   };
@@ -60,6 +61,7 @@ returns g c r script crew closed serves have = record {
     purged = λ e p. c.doomed_entries_were_purged.ensures.purged r crew e closed p;
     purged_stage = λ e p. c.doomed_entries_were_purged.ensures.stage r crew e closed p;
     given_back = λ a e p undoomed at. c.entries_are_given_back_by_lines.ensures r crew a e closed p undoomed at;
+    given_back_new = λ fit a e p undoomed at. c.runs_that_fit_lose_nothing.ensures.old r crew a e closed fit p undoomed at;
   };
   order = c.lines_are_in_order.ensures r crew have;
   tabs = record {
