@@ -1,12 +1,13 @@
 // Slots that are wiped, and what passes and notes know of them.
-use super::kinds::{CELL_IN, CELL_OUT, END_TURN, LEARN, RAISE, SYNC, TRY_TURN, WIPED, WRITE};
 use super::rows::Row;
-use super::table::word_at;
-use super::{Act, Core};
 use core_model::Sight;
-use core_state::Content;
+use core_state::{Act, Content, Core};
 use lock_word::{Stage, Word};
 use std::process::Abort;
+use test_core_walks::kinds::{
+    CELL_IN, CELL_OUT, END_TURN, LEARN, RAISE, SYNC, TRY_TURN, WIPED, WRITE,
+};
+use test_core_walks::word_at;
 
 /// What a step of a tab that frees did towards a wiped slot.
 pub(super) fn wiper_row(act: &Act) -> Option<Row> {

@@ -1,5 +1,4 @@
 // Steps of a tab that writes.
-use super::Act;
 use super::choice::{Seat, evict_act, inner_tab};
 use super::freeing::{freer_act, has_room};
 use super::kinds::{
@@ -11,7 +10,7 @@ use super::random::Numbers;
 use super::store::Store;
 use super::table::start_number;
 use core_model::{Hold, Piece, Tab, Turn, View, Writer};
-use core_state::Content;
+use core_state::{Act, Content};
 use link_word::{Link, pack_link};
 
 /// Of so many versions one is given up, and the chance, one in so many, that its tab does so now, before

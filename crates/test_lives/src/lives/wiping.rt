@@ -1,11 +1,10 @@
 // A crash after each step by which an entry is stored, purged, and its slot wiped.
 use super::{kind_of, step_in};
-use crate::play::{answer_in, parted};
 use core_lives::Life;
 use core_state::{Picks, Step};
 use std::alloc::Global;
 use std::process::Abort;
-use test_core_kit::{SLOT, life_over, live};
+use test_core_kit::{SLOT, answer_in, life_over, live, parted};
 
 /// An entry of one slot is stored durably in a new store of one slot, and purged by its last user. The inner tab has the cell of
 /// its slot out then. Each row has a step, what it answers, and the version that stands at the anchor after a crash and a
