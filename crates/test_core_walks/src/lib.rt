@@ -15,9 +15,7 @@ pub use choice::{Seat, calm_of, choose, inner_tab, next_seat, tab_of};
 pub use freeing::has_room;
 pub use random::Numbers;
 pub use store::{STORE, STORES_THAT_FIT, Store, core_of};
-pub use table::{
-    beside, chain_of, hold_of, is_taken, published_at, start_number, word_at,
-};
+pub use table::{beside, chain_of, hold_of, is_taken, published_at, start_number, word_at};
 
 /// The anchors that walks are about, and the passes that take part. A store may have more of both.
 pub const ANCHORS: u32 = 2;

@@ -3,8 +3,8 @@ use super::choice::{Seat, evict_act, inner_tab};
 use super::freeing::{freer_act, has_room};
 use super::kinds::{
     APPENDING, CELL_IN, CELL_OUT, CLOSED, DISOWN, END_TURN, HALTED, KEPT, KEPT_UNSURE, LINK,
-    LOG_PIECE, LOOK_MAP, NOTHING, NOTHING_MORE, OWN, RAISE, SIDE, STORE_KEY0, STORE_KEY1, STORE_OFFER,
-    STORE_START, SYNC, TRY_TURN, UNSURE, WRITE,
+    LOG_PIECE, LOOK_MAP, NOTHING, NOTHING_MORE, OWN, RAISE, SIDE, STORE_KEY0, STORE_KEY1,
+    STORE_OFFER, STORE_START, SYNC, TRY_TURN, UNSURE, WRITE,
 };
 use super::random::Numbers;
 use super::store::Store;

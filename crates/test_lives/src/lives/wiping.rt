@@ -92,7 +92,10 @@ fn life_after<R: Abort>(rt: &R, alloc: Global, texts: &[&str; 2], count: usize) 
         let (step, answer) = parted(made, " = ")?;
         let step = step_in(alloc, step)?;
         let found = live(&mut life, &step);
-        assert!(rt; Some(found) == answer_in(kind_of(&step), answer), "{row}: {found:?}");
+        assert!(rt;
+            Some(found) == answer_in(kind_of(&step), answer),
+            "{row}: {found:?}"
+        );
     }
     Some(life)
 }
@@ -108,13 +111,22 @@ fn version_left(alloc: Global, life: &mut Life, number: u32) -> Option<u64> {
 }
 
 /// After so many rows a crash leaves what the last of them, which is this one, says, and nothing else.
-fn check_row<R: Abort>(rt: &R, alloc: Global, texts: &[&str; 2], count: usize, row: &str) -> Option<()> {
+fn check_row<R: Abort>(
+    rt: &R,
+    alloc: Global,
+    texts: &[&str; 2],
+    count: usize,
+    row: &str,
+) -> Option<()> {
     let (_, left) = parted(row, " | ")?;
     let mut number = 0u32;
     for version in left.split(' ') {
         let mut life = life_after(rt, alloc, texts, count)?;
         let found = version_left(alloc, &mut life, number);
-        assert!(rt; found.is_some() && found == version.parse().ok(), "{row}: {number}, {found:?}");
+        assert!(rt;
+            found.is_some() && found == version.parse().ok(),
+            "{row}: {number}, {found:?}"
+        );
         number = number.saturating_add(1);
     }
     let mut life = life_after(rt, alloc, texts, count)?;

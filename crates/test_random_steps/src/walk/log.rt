@@ -1,6 +1,6 @@
 // The log of pieces: its counter, and what passes and notes know of it.
-use super::rows::Row;
 use super::STEPS;
+use super::rows::Row;
 use core_model::{LoggedPiece, Sight};
 use core_state::{Act, Core};
 use std::process::Abort;

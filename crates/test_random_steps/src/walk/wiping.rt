@@ -60,11 +60,13 @@ pub(super) fn wiped_row(core: &Core, act: &Act, word: Option<Word>, seen: usize)
 /// crash leaves the slot blank alone.
 pub(super) fn watch_wiped<R: Abort>(rt: &R, core: &Core, act: &Act) {
     let view = core.views().get(act.pass as usize);
-    let Some(Sight::Wiped {
-        anchor,
-        version,
-        slot,
-    }) = view.and_then(|view| view.seen.as_slice().last().copied())
+    let Some(
+        Sight::Wiped {
+            anchor,
+            version,
+            slot,
+        },
+    ) = view.and_then(|view| view.seen.as_slice().last().copied())
     else {
         assert!(rt; false, "{act:?} told of no slot");
         return;
