@@ -62,7 +62,7 @@ play() {
 }
 
 crates=("$@")
-[ $# -gt 0 ] || crates=(test_core test_disks test_pools test_dirs)
+[ $# -gt 0 ] || crates=(test_core test_lives test_disks test_pools test_dirs)
 for crate in "${crates[@]}"; do
     program=$(program_of "$crate") || { fail "$crate: its tests could not be built"; continue; }
     while read -r name; do

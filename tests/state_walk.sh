@@ -26,7 +26,7 @@ for file in tests/state_walk/*.txt; do
     [ "$name" = checks ] && target=$walk/checks.rt
     cp "$file" "$target"
 done
-sed -i 's/^mod choice;$/mod checks;\nmod choice;/
+sed -i 's/^mod crashes;$/mod checks;\nmod crashes;/
     s/^\( *\)watch\.note_step(.*$/&\n\1if store.fillers == 0 {\n\1    checks::check(rt, \&core);\n\1}/' "$walk.rt"
 grep -q 'checks::check' "$walk.rt"
 

@@ -1,11 +1,7 @@
-//! Tests of the pure core: steps, and what each answers; and lists of steps.
+//! Tests of the pure core: steps, and what each answers.
 #![tactic(auto)]
 
 #[cfg(test)]
-mod lives;
-#[cfg(test)]
-mod play;
-#[cfg(test)]
-mod runs;
+mod player;
 #[cfg(test)]
 mod steps;

@@ -1,4 +1,5 @@
-pub(crate) mod images;
+mod images;
+mod order;
 mod other_rows;
 mod rows;
 mod search_rows;
@@ -6,13 +7,13 @@ mod searches;
 mod slot_rows;
 mod wiping_rows;
 
-use crate::play::{numbers, parted, play};
+use crate::player::play;
 use core_state::{Core, Picks, Step, StepFault};
 use other_rows::{NO_STEPS, SECOND_WORD};
 use rows::SCRIPTS;
 use slot_rows::SLOT_SCRIPTS;
 use std::alloc::Global;
-use test_core_kit::{blank_core, make};
+use test_core_kit::{blank_core, make, numbers, parted};
 use wiping_rows::WIPING;
 
 /// The core that the head of a script asks for, `core SLOTS ANCHORS PASSES`, and the rows of the script.

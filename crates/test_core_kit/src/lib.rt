@@ -1,12 +1,17 @@
-//! Cores that tests of the core begin with, and a step of one.
+//! Cores that tests of the core begin with, a step of one, and what rows of text say of steps and of cores.
 #![tactic(auto)]
+
+mod base;
+mod rows;
 
 ghost use Rattle.std.specs.Prelude.{◌≡◌, ℕ, List, All, length, IsTrue};
 
+pub use base::patched_base;
 use core_lives::Life;
 use core_state::{Core, Step, StepFault};
 use rebuild_model::{FileImage, Images};
 use rock_io::Octets;
+pub use rows::{act_in, answer_in, numbers, parted, standing, word_in};
 use std::alloc::Global;
 
 /// The bytes of a slot.

@@ -1,39 +1,24 @@
 // Random allowed steps of all kinds, and what each brings about.
-mod choice;
 mod crashes;
-mod freeing;
-mod kinds;
 mod life;
 mod log;
 mod named;
-mod random;
-mod reading;
 mod room;
 mod rows;
-mod store;
-mod straying;
-mod table;
 mod watch;
 mod wiping;
-mod writing;
 
-use choice::{Seat, calm_of, choose, next_seat};
-use core_state::{Act, Core, Step, StepFault};
+use core_state::{Step, StepFault};
 use log::check_log;
-use random::Numbers;
 use room::{Near, keeps_room, watch_room};
 use rows::{Row, Tally};
 use std::alloc::Global;
 use std::process::Abort;
-use store::{STORE, STORES_THAT_FIT, Store, core_of};
 use test_core_kit::make;
+use test_core_walks::{
+    Numbers, STORE, STORES_THAT_FIT, Seat, Store, calm_of, choose, core_of, next_seat,
+};
 use watch::{Before, Watch};
-
-const ANCHORS: u32 = 2;
-
-const PASSES: u32 = 3;
-
-const SLOTS: u32 = 4;
 
 /// Walks, each from a core of its own, since what a pass has seen only grows; and those over each store that fits.
 const WALKS: u32 = 500;

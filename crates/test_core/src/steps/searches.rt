@@ -1,11 +1,11 @@
 // Workers that search for a free slot at once, in orders of their steps.
 use super::first_word;
 use super::search_rows::SEARCHES;
-use crate::play::{numbers, parted, play};
+use crate::player::play;
 use core_state::Core;
 use std::alloc::Global;
 use std::process::Abort;
-use test_core_kit::blank_core;
+use test_core_kit::{blank_core, numbers, parted};
 
 /// The word of the map that is `F` in an order.
 const FULL: &str = "18446744073709551615";

@@ -1,18 +1,16 @@
 // Random steps with crashes and rebuilds among them.
-use super::choice::{Seat, calm_of, choose, next_seat};
-use super::kinds::LOG_PIECE;
 use super::named::{Contents, entry_at, kept_at, words_of};
-use super::random::Numbers;
-use super::store::STORE;
-use super::table::hold_of;
 use super::wiping::is_wiped;
-use super::{ANCHORS, Act, Core, PASSES, SLOTS};
 use core_lives::{FirstContent, Life};
 use core_model::{Cell, LoggedPiece, Piece, Sight};
-use core_state::{Content, Picks, Step, StepFault};
+use core_state::{Act, Content, Core, Picks, Step, StepFault};
 use std::alloc::Global;
 use std::process::Abort;
 use test_core_kit::{SLOT, life_over, live};
+use test_core_walks::kinds::LOG_PIECE;
+use test_core_walks::{
+    ANCHORS, Numbers, PASSES, SLOTS, STORE, Seat, calm_of, choose, hold_of, next_seat,
+};
 
 /// Walks, each of so many allowed steps of passes, and the most tries of any step.
 const WALKS: u32 = 100;

@@ -1,7 +1,8 @@
 // The log of pieces: its counter, and what passes and notes know of it.
+use super::STEPS;
 use super::rows::Row;
-use super::{Act, Core, STEPS};
 use core_model::{LoggedPiece, Sight};
+use core_state::{Act, Core};
 use std::process::Abort;
 
 /// The counter of logged pieces, which is the last word of the table.

@@ -1,9 +1,9 @@
 // What a rebuild makes of what a crash left, computed from names by the test itself.
-use super::{ANCHORS, SLOTS};
 use core_lives::FirstContent;
 use core_model::LoggedPiece;
 use link_word::{Link, pack_link};
 use std::alloc::Global;
+use test_core_walks::{ANCHORS, SLOTS};
 
 /// What each slot holds.
 pub(super) type Contents = [FirstContent; SLOTS as usize];

@@ -1,13 +1,9 @@
 // Room in stores that fit: what each step keeps to, and what holds after it.
-use super::choice::{Seat, inner_tab, tab_of};
-use super::freeing::has_room;
-use super::kinds::{CHANGE, LINK, LOOK_MAP, OWN};
-use super::store::Store;
-use super::table::is_taken;
-use super::{Act, Core};
 use core_model::{INNER_TAB, Tab, View, Writer};
-use core_state::Content;
+use core_state::{Act, Content, Core};
 use std::process::Abort;
+use test_core_walks::kinds::{CHANGE, LINK, LOOK_MAP, OWN};
+use test_core_walks::{Seat, Store, has_room, inner_tab, is_taken, tab_of};
 
 /// The most slots and anchors of a store that fits.
 const SLOTS_END: usize = 69;

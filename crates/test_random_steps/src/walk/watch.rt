@@ -1,20 +1,18 @@
 // What each step brings about, by what stood before it and after.
-use super::choice::{Seat, tab_of};
-use super::kinds::{
+use super::life::life_row;
+use super::log::{log_count, seen_count, watch_logged, watch_turn};
+use super::rows::{Row, Tally};
+use super::wiping::{watch_wiped, wiped_row, wiper_row};
+use core_model::{INNER_TAB, TABS, Tab};
+use core_state::{Act, Content, Core};
+use lock_word::Word;
+use std::process::Abort;
+use test_core_walks::kinds::{
     CELL_IN, CELL_OUT, CHANGE, CLOSED, COUNT, DISOWN, DOOM, DRAW, END_TURN, ENTER, GET_LINK,
     HALTED, KEPT, KEPT_UNSURE, LEARN, LEAVE, LINK, LOG_PIECE, LOOK, LOOK_MAP, NOTE, NOTHING, OWN,
     RAISE, SIDE, STORES, SYNC, TRY_TURN, UNSURE, WIPED, WRITE,
 };
-use super::life::life_row;
-use super::log::{log_count, seen_count, watch_logged, watch_turn};
-use super::rows::{Row, Tally};
-use super::table::{is_taken, published_at, word_at};
-use super::wiping::{watch_wiped, wiped_row, wiper_row};
-use super::{ANCHORS, Act, Core, PASSES};
-use core_model::{INNER_TAB, TABS, Tab};
-use core_state::Content;
-use lock_word::Word;
-use std::process::Abort;
+use test_core_walks::{ANCHORS, PASSES, Seat, is_taken, published_at, tab_of, word_at};
 
 const SEATS: usize = TABS * PASSES as usize;
 

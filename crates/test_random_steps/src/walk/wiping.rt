@@ -1,12 +1,13 @@
 // Slots that are wiped, and what passes and notes know of them.
-use super::kinds::{CELL_IN, CELL_OUT, END_TURN, LEARN, RAISE, SYNC, TRY_TURN, WIPED, WRITE};
 use super::rows::Row;
-use super::table::word_at;
-use super::{Act, Core};
 use core_model::Sight;
-use core_state::Content;
+use core_state::{Act, Content, Core};
 use lock_word::{Stage, Word};
 use std::process::Abort;
+use test_core_walks::kinds::{
+    CELL_IN, CELL_OUT, END_TURN, LEARN, RAISE, SYNC, TRY_TURN, WIPED, WRITE,
+};
+use test_core_walks::word_at;
 
 /// What a step of a tab that frees did towards a wiped slot.
 pub(super) fn wiper_row(act: &Act) -> Option<Row> {
@@ -59,11 +60,13 @@ pub(super) fn wiped_row(core: &Core, act: &Act, word: Option<Word>, seen: usize)
 /// crash leaves the slot blank alone.
 pub(super) fn watch_wiped<R: Abort>(rt: &R, core: &Core, act: &Act) {
     let view = core.views().get(act.pass as usize);
-    let Some(Sight::Wiped {
-        anchor,
-        version,
-        slot,
-    }) = view.and_then(|view| view.seen.as_slice().last().copied())
+    let Some(
+        Sight::Wiped {
+            anchor,
+            version,
+            slot,
+        },
+    ) = view.and_then(|view| view.seen.as_slice().last().copied())
     else {
         assert!(rt; false, "{act:?} told of no slot");
         return;

@@ -1,6 +1,6 @@
 use denote.Text.{Utf8}
 use denote.Shadow.{shadow}
-use Rattle.test_core.proofs.play.play.Given as goal
+use Rattle.test_core.proofs.player.play.Given as goal
 
 -- the name of a stage is text
 abbrev pub invariant-loop-line : goal.invariant-loop-line

@@ -6,9 +6,9 @@ use super::kinds::{
 };
 use super::random::Numbers;
 use super::store::Store;
-use super::{ANCHORS, Act, SLOTS};
+use super::{ANCHORS, SLOTS};
 use core_model::{Tab, View};
-use core_state::Content;
+use core_state::{Act, Content};
 use link_word::pack_link;
 
 /// Words beside an anchor and links of slots are below this, and notes below that.

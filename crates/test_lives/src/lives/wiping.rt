@@ -1,11 +1,10 @@
 // A crash after each step by which an entry is stored, purged, and its slot wiped.
 use super::{kind_of, step_in};
-use crate::play::{answer_in, parted};
 use core_lives::Life;
 use core_state::{Picks, Step};
 use std::alloc::Global;
 use std::process::Abort;
-use test_core_kit::{SLOT, life_over, live};
+use test_core_kit::{SLOT, answer_in, life_over, live, parted};
 
 /// An entry of one slot is stored durably in a new store of one slot, and purged by its last user. The inner tab has the cell of
 /// its slot out then. Each row has a step, what it answers, and the version that stands at the anchor after a crash and a
@@ -93,7 +92,10 @@ fn life_after<R: Abort>(rt: &R, alloc: Global, texts: &[&str; 2], count: usize) 
         let (step, answer) = parted(made, " = ")?;
         let step = step_in(alloc, step)?;
         let found = live(&mut life, &step);
-        assert!(rt; Some(found) == answer_in(kind_of(&step), answer), "{row}: {found:?}");
+        assert!(rt;
+            Some(found) == answer_in(kind_of(&step), answer),
+            "{row}: {found:?}"
+        );
     }
     Some(life)
 }
@@ -109,13 +111,22 @@ fn version_left(alloc: Global, life: &mut Life, number: u32) -> Option<u64> {
 }
 
 /// After so many rows a crash leaves what the last of them, which is this one, says, and nothing else.
-fn check_row<R: Abort>(rt: &R, alloc: Global, texts: &[&str; 2], count: usize, row: &str) -> Option<()> {
+fn check_row<R: Abort>(
+    rt: &R,
+    alloc: Global,
+    texts: &[&str; 2],
+    count: usize,
+    row: &str,
+) -> Option<()> {
     let (_, left) = parted(row, " | ")?;
     let mut number = 0u32;
     for version in left.split(' ') {
         let mut life = life_after(rt, alloc, texts, count)?;
         let found = version_left(alloc, &mut life, number);
-        assert!(rt; found.is_some() && found == version.parse().ok(), "{row}: {number}, {found:?}");
+        assert!(rt;
+            found.is_some() && found == version.parse().ok(),
+            "{row}: {number}, {found:?}"
+        );
         number = number.saturating_add(1);
     }
     let mut life = life_after(rt, alloc, texts, count)?;

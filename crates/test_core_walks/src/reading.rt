@@ -1,12 +1,11 @@
 // Steps of a tab that reads.
-use super::Act;
 use super::choice::Seat;
 use super::kinds::{
     CELL_IN, CELL_OUT, DOOM, END_TURN, GET_LINK, LEAVE, SIDE, START, STORES, TRY_TURN,
 };
 use super::random::Numbers;
 use core_model::{Hold, Reader, Turn};
-use core_state::Content;
+use core_state::{Act, Content};
 use link_word::Link;
 
 /// Chances, each one in so many: that a tab dooms its entry, leaves it, or loads a word beside it.

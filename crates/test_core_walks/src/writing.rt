@@ -1,17 +1,16 @@
 // Steps of a tab that writes.
-use super::Act;
 use super::choice::{Seat, evict_act, inner_tab};
 use super::freeing::{freer_act, has_room};
 use super::kinds::{
     APPENDING, CELL_IN, CELL_OUT, CLOSED, DISOWN, END_TURN, HALTED, KEPT, KEPT_UNSURE, LINK,
-    LOG_PIECE, LOOK_MAP, NOTHING, NOTHING_MORE, OWN, RAISE, SIDE, STORE_KEY0, STORE_KEY1, STORE_OFFER,
-    STORE_START, SYNC, TRY_TURN, UNSURE, WRITE,
+    LOG_PIECE, LOOK_MAP, NOTHING, NOTHING_MORE, OWN, RAISE, SIDE, STORE_KEY0, STORE_KEY1,
+    STORE_OFFER, STORE_START, SYNC, TRY_TURN, UNSURE, WRITE,
 };
 use super::random::Numbers;
 use super::store::Store;
 use super::table::start_number;
 use core_model::{Hold, Piece, Tab, Turn, View, Writer};
-use core_state::Content;
+use core_state::{Act, Content};
 use link_word::{Link, pack_link};
 
 /// Of so many versions one is given up, and the chance, one in so many, that its tab does so now, before

@@ -1,14 +1,14 @@
 mod rows;
 mod wiping;
 
-use crate::play::{act_in, answer_in, numbers, parted, standing};
-use crate::steps::images::file_of;
 use core_lives::Life;
 use core_state::{Picks, Step};
 use rows::{LIVES, OVER_A_FILE};
 use std::alloc::Global;
 use std::process::Abort;
-use test_core_kit::{SLOT, life_over, live};
+use test_core_kit::{
+    SLOT, act_in, answer_in, life_over, live, numbers, parted, patched_base, standing,
+};
 
 /// The life that the head of a script asks for, `life SLOTS ANCHORS PASSES`, and the rows of the script.
 fn script_of(alloc: Global, script: &str) -> Option<(Life, &str)> {
@@ -97,7 +97,7 @@ fn lives_go_on_as_their_rows_say(rt: HostRuntime) {
 
 /// A life of one pass over the base of the images, with one anchor.
 fn life_over_the_base(alloc: Global) -> Option<Life> {
-    life_over(alloc, &file_of(alloc, "")?, 1, 1)
+    life_over(alloc, &patched_base(alloc, "")?, 1, 1)
 }
 
 #[test]

@@ -3,15 +3,17 @@ ghost use Rattle.std.specs.Prelude.{◌<◌};
 
 /// Numbers from a seed, by a linear congruence.
 #[derive(Drop)]
-pub(super) struct Numbers {
+pub struct Numbers {
     state: u64,
 }
 
 impl Numbers {
+    /// The same from the same seed.
     pub fn new(seed: u64) -> Self {
         Numbers { state: seed }
     }
 
+    /// The next number.
     pub fn below(&mut self, bound: u32) -> u32
         requires { 0 < bound }
         ensures { result < bound }

@@ -9,9 +9,9 @@ use super::store::Store;
 use super::straying::stray_act;
 use super::table::hold_of;
 use super::writing::writer_act;
-use super::{ANCHORS, Act, Core, PASSES};
+use super::{ANCHORS, PASSES};
 use core_model::{INNER_TAB, Kind, Tab, View};
-use core_state::Content;
+use core_state::{Act, Content, Core};
 use lock_word::{Word, is_idle, is_vacant, unpack};
 
 /// The tabs that take part, the inner one among them.
@@ -44,12 +44,13 @@ const VALUE_END: u32 = 9;
 
 /// A pass and a tab of it.
 #[derive(Clone, Copy)]
-pub(super) struct Seat {
+pub struct Seat {
     pub pass: u32,
     pub tab: u8,
 }
 
 impl Seat {
+    /// A step of this tab.
     pub fn act(self, kind: u8, at: u32, value: u64) -> Act {
         Act {
             pass: self.pass,
@@ -70,14 +71,14 @@ impl Seat {
 }
 
 /// How rarely a free tab begins something: every other walk is calm.
-pub(super) fn calm_of(seed: u32) -> u32
+pub fn calm_of(seed: u32) -> u32
     ensures { 0 < result }
 {
     if seed.is_multiple_of(2) { CALM } else { LIVELY }
 }
 
 /// Where the next step is tried: at the same tab, or at any that takes part, and sooner at a busy one.
-pub(super) fn next_seat(numbers: &mut Numbers, core: &Core, seat: Seat, calm: u32) -> Seat
+pub fn next_seat(numbers: &mut Numbers, core: &Core, seat: Seat, calm: u32) -> Seat
     requires { 0 < calm }
 {
     if numbers.is_one_in(STAYS) {
@@ -104,13 +105,14 @@ fn any_seat(numbers: &mut Numbers) -> Seat {
     }
 }
 
-pub(super) fn tab_of(core: &Core, seat: Seat) -> Option<&Tab<Content>> {
+/// The tab there.
+pub fn tab_of(core: &Core, seat: Seat) -> Option<&Tab<Content>> {
     let view = core.views().get(seat.pass as usize)?;
     view.tabs.as_slice().get(seat.tab as usize)
 }
 
 /// A step that makes sense for the tab there, or now and then another.
-pub(super) fn choose(numbers: &mut Numbers, store: &Store, core: &Core, seat: Seat) -> Act {
+pub fn choose(numbers: &mut Numbers, store: &Store, core: &Core, seat: Seat) -> Act {
     if numbers.is_one_in(LEARNS) {
         return note_act(core, seat);
     }
@@ -181,7 +183,7 @@ fn tab_act(
 }
 
 /// Whether the inner tab of the pass is free, and what it gives back else.
-pub(super) fn inner_tab(view: &View<Content>) -> Option<&Tab<Content>> {
+pub fn inner_tab(view: &View<Content>) -> Option<&Tab<Content>> {
     view.tabs.as_slice().get(INNER_TAB as usize)
 }
 

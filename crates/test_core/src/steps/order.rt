@@ -1,6 +1,6 @@
 // An entry's life across two workers, as docs/STATE-MACHINE.md draws it: two slots are written and read one
 // after the other, the entry is doomed, and its last user frees it.
-use crate::play::play;
+use crate::player::play;
 use core_model::Piece;
 use core_state::{Content, Core};
 use link_word::Link;

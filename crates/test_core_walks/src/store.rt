@@ -2,9 +2,9 @@
 use super::choice::Seat;
 use super::kinds::{CHANGE, COUNT, DRAW, LOOK, OWN};
 use super::random::Numbers;
-use super::{ANCHORS, Act, Core, PASSES, SLOTS};
+use super::{ANCHORS, PASSES, SLOTS};
 use core_model::Writer;
-use core_state::{Content, Step};
+use core_state::{Act, Content, Core, Step};
 use std::alloc::Global;
 use test_core_kit::{blank_core, make};
 
@@ -16,7 +16,7 @@ const FILLERS: u32 = 8;
 /// A store: `SLOTS` slots of it are free for the passes of a walk, and those in front of them are taken all along, by
 /// writers of further passes at further anchors.
 #[derive(Clone, Copy, Debug)]
-pub(super) struct Store {
+pub struct Store {
     pub slots: u32,
     /// How many writers have the slots in front.
     pub fillers: u32,
@@ -25,7 +25,7 @@ pub(super) struct Store {
 }
 
 /// One of which nothing is said.
-pub(super) const STORE: Store = Store {
+pub const STORE: Store = Store {
     slots: SLOTS,
     fillers: 0,
     needs: None,
@@ -33,7 +33,7 @@ pub(super) const STORE: Store = Store {
 
 /// Those that fit, with no slot to spare. In the last ones the free slots are the last two of the first word of the map
 /// and the first two of the second, and the first word is full.
-pub(super) const STORES_THAT_FIT: [Store; 4] = [
+pub const STORES_THAT_FIT: [Store; 4] = [
     Store {
         slots: 4,
         fillers: 0,
@@ -95,7 +95,7 @@ impl Store {
 }
 
 /// A new core of the store, with the slots in front taken.
-pub(super) fn core_of(alloc: Global, store: &Store) -> Option<Core> {
+pub fn core_of(alloc: Global, store: &Store) -> Option<Core> {
     let anchors = ANCHORS.saturating_add(store.fillers);
     let passes = PASSES.saturating_add(store.fillers.div_ceil(FILLERS));
     let mut core = blank_core(alloc, store.slots, anchors, passes)?;

@@ -1,10 +1,7 @@
-mod order;
-
-use crate::play::{act_in, word_in};
 use core_runs::run_steps;
 use core_state::{Core, Step};
 use std::alloc::Global;
-use test_core_kit::blank_core;
+use test_core_kit::{act_in, blank_core, word_in};
 
 /// Runs of steps, one after the other over one core of two slots: the steps, and behind them how the run ended
 /// and, where it says so, what the word of the anchor is then.

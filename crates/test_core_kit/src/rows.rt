@@ -1,4 +1,4 @@
-// A player of rows of text. Each line is one of these:
+// Rows of text, as tests of the core play them. Each line is one of these:
 //
 // - `PASS TAB KIND AT VALUE = ANSWER`: a step, and what it answers, which is a number, `word VERSION STAGE READERS`
 //   (the word of an anchor), or `refused`;
@@ -7,6 +7,8 @@
 // - `stands VERSION STAGE READERS`: the word of anchor 0 there;
 // - `cell IS_WRITTEN COUNT true`: whether tab 0 of pass 0, which writes and has a turn, has its piece in the cell there,
 //   how many contents a crash may leave in it, and that what is in it now is one of these;
+// - `inner IS_BLANK COUNT true`: the same of the inner tab of pass 0, which frees and has a turn, and whether its cell is
+//   blank now;
 // - `seen VIEW COUNT`: how many things the pass or note of this number has seen, `Some(..)`, or `None` where there
 //   is no such view;
 // - `map [WORD, ..]`: the words of the map of taken slots;
@@ -16,13 +18,11 @@
 // - `reserved PASS TAB [SLOT, ..]`: the slots that this tab, which writes, has reserved and not published;
 // - `# ..`: a comment.
 use core_model::{Cell, INNER_TAB, Tab, Turn, Writer};
-use core_state::{Act, Content, Core, Step, StepFault};
+use core_state::{Act, Content, Core, StepFault};
 use std::alloc::Global;
-use std::process::Abort;
-use test_core_kit::make;
 
 /// The numbers of a text, with one space between two, where it has so many.
-pub(crate) fn numbers<const N: usize>(text: &str) -> Option<[u64; N]> {
+pub fn numbers<const N: usize>(text: &str) -> Option<[u64; N]> {
     let mut numbers = [0; N];
     let mut words = text.split(' ');
     for number in &mut numbers {
@@ -32,12 +32,12 @@ pub(crate) fn numbers<const N: usize>(text: &str) -> Option<[u64; N]> {
 }
 
 /// The two parts of a text, of which the first ends at the first mark.
-pub(crate) fn parted<'a>(text: &'a str, mark: &str) -> Option<(&'a str, &'a str)> {
+pub fn parted<'a>(text: &'a str, mark: &str) -> Option<(&'a str, &'a str)> {
     text.split_once(mark)
 }
 
 /// The step `PASS TAB KIND AT VALUE`.
-pub(crate) fn act_in(text: &str) -> Option<Act> {
+pub fn act_in(text: &str) -> Option<Act> {
     let [pass, tab, kind, at, value] = numbers::<5>(text)?;
     Some(Act {
         pass: u32::try_from(pass).ok()?,
@@ -49,13 +49,14 @@ pub(crate) fn act_in(text: &str) -> Option<Act> {
 }
 
 /// The word `VERSION STAGE READERS` of an anchor.
-pub(crate) fn word_in(text: &str) -> Option<u64> {
+pub fn word_in(text: &str) -> Option<u64> {
     let [version, stage, readers] = numbers::<3>(text)?;
     let epoch = version.checked_mul(0x1_0000)?.checked_add(stage)?;
     epoch.checked_mul(0x1_0000)?.checked_add(readers)
 }
 
-pub(crate) fn answer_in(kind: u8, text: &str) -> Option<Result<u64, StepFault>> {
+/// What a step of this kind answers, by a text: a number, `word ..`, or `refused`.
+pub fn answer_in(kind: u8, text: &str) -> Option<Result<u64, StepFault>> {
     if text == "refused" {
         return Some(Err(StepFault::NotAllowed { kind }));
     }
@@ -164,7 +165,7 @@ fn reserved_told(alloc: Global, core: &Core, pass: &str, tab: &str) -> Option<St
 }
 
 /// What a line that begins so should be, as the core stands.
-pub(crate) fn standing(alloc: Global, core: &Core, line: &str) -> Option<String> {
+pub fn standing(alloc: Global, core: &Core, line: &str) -> Option<String> {
     let mut words = line.split(' ');
     match words.next()? {
         "stands" => anchor_told(alloc, core),
@@ -177,40 +178,4 @@ pub(crate) fn standing(alloc: Global, core: &Core, line: &str) -> Option<String>
         "reserved" => reserved_told(alloc, core, words.next()?, words.next()?),
         _ => None,
     }
-}
-
-/// Makes the steps of a text in order, and compares what each answers, and what else the text says.
-pub(crate) fn play<R: Abort>(rt: &R, alloc: Global, core: &mut Core, text: &str) {
-    let mut stage = "";
-    let mut made: u32 = 0;
-    let mut is_counted = false;
-    for line in text.lines() {
-        is_counted = false;
-        if let Some((step, answer)) = parted(line, " = ") {
-            play_step(rt, core, step, answer, stage);
-            made = made.saturating_add(1);
-        } else if let Some(count) = line.strip_prefix("made ") {
-            assert_eq!(rt; count.parse().ok(), Some(made), "{stage}: steps made");
-            made = 0;
-            is_counted = true;
-        } else if let Some(what) = line.strip_prefix("stage ") {
-            stage = what;
-        } else if !line.starts_with("# ") {
-            let stands = standing(alloc, core, line).unwrap_or(String::new(alloc));
-            assert!(rt;
-                stands.as_str() == line,
-                "{stage}: {line}, and not {stands}"
-            );
-        }
-    }
-    assert!(rt; is_counted, "{stage}: the text does not end with a count");
-}
-
-fn play_step<R: Abort>(rt: &R, core: &mut Core, step: &str, answer: &str, stage: &str) {
-    let Some(act) = act_in(step) else {
-        assert!(rt; false, "{stage}: no step is {step}");
-        return;
-    };
-    let found = make(core, &Step::Act(act));
-    assert_eq!(rt; Some(found), answer_in(act.kind, answer), "{stage}: {step}");
 }

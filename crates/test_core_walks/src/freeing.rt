@@ -1,11 +1,10 @@
 // Steps of an inner tab that gives slots back.
-use super::Act;
 use super::choice::Seat;
 use super::kinds::{DISOWN, GET_LINK, GONE, LINK, NOTHING_MORE, RAISE, TRY_TURN, WIPED};
 use super::random::Numbers;
 use super::writing::hold_act;
 use core_model::{Freer, Tab, Turn, View, Writer};
-use core_state::Content;
+use core_state::{Act, Content};
 
 /// The chance, one in so many, that a loose slot is given back before the rest is.
 const GIVES_BACK: u32 = 3;
@@ -16,7 +15,7 @@ const WIPES: u32 = 2;
 const SAYS_NOTHING: u32 = 4;
 
 /// Whether a writing tab may reserve one slot more.
-pub(super) fn has_room(writer: &Writer<Content>) -> bool {
+pub fn has_room(writer: &Writer<Content>) -> bool {
     let is_last = writer
         .chosen
         .is_some_and(|piece| piece.next == link_word::Link::Last);
