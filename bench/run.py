@@ -206,7 +206,7 @@ NAMES = {
     "s": "stat",
     "o": "open",
     "f": "fstat",
-    "g": "pread of a slot",
+    "g": "pread of slots",
     "p": "pwrite of a slot",
     "c": "close",
     "w": "write of answers",

@@ -24,14 +24,14 @@ HELD(calls, FOLDER "/calls.bin");
 HELD(images, FOLDER "/images.bin");
 HELD(answers, ANSWERS);
 
-enum { SLOT = 16384 };
+enum { SLOT = 16384, MOST = 65536 };
 
 struct call {
     uint32_t kind, count;
     uint64_t at;
 };
 
-static uint8_t buffer[SLOT];
+static uint8_t buffer[MOST];
 
 int main(int count, char **words) {
     const struct call *call = (const struct call *)calls, *end = (const struct call *)calls_end;
@@ -43,7 +43,7 @@ int main(int count, char **words) {
         int done = 0;
         switch (call->kind) {
         case 'r':
-            done = call->count <= SLOT && read(0, buffer, call->count) == (ssize_t)call->at;
+            done = call->count <= MOST && read(0, buffer, call->count) == (ssize_t)call->at;
             break;
         case 's':
             done = stat(words[1], &file) == 0;
@@ -59,7 +59,7 @@ int main(int count, char **words) {
             done = close(db) == 0;
             break;
         case 'g':
-            done = call->count == SLOT && pread(db, buffer, SLOT, call->at) == SLOT;
+            done = call->count <= MOST && pread(db, buffer, call->count, call->at) == (ssize_t)call->count;
             break;
         case 'p':
             memcpy(buffer, image, call->count);

@@ -51,6 +51,14 @@ impl FileCell {
         Ok(cells)
     }
 
+    /// Whether it stands so many places behind that one, among slots of one width.
+    pub(crate) fn is_behind(&self, first: &FileCell, places: usize) -> bool
+        ensures { IsTrue result ↔ ((self.now.number ≡ first.now.number + places) × (self.now.width ≡ first.now.width)) }
+    {
+        u64::from(self.number) == u64::from(first.number).saturating_add(places as u64)
+            && self.width == first.width
+    }
+
     /// Where in the file it begins.
     pub(crate) fn offset(&self) -> u64
         ensures header { self.now.number ≡ HEADER_NUMBER → result ≡ 0 }

@@ -7,6 +7,7 @@
 
 mod cause;
 mod cell;
+mod cell_reads;
 mod lock;
 mod open_files;
 mod opening;

@@ -1,8 +1,9 @@
-ghost use Rattle.std.specs.Prelude.{◌≡◌, ◌≤◌, false, length, OnOk, OnErr};
+ghost use Rattle.std.specs.Prelude.{◌≡◌, ◌<◌, ◌≤◌, false, length, map, OnOk, OnErr, IfErr};
 ghost use Rattle.rock_io.specs.Faults.{one_more};
 
 use crate::FileCell;
-use rock_disk::Station;
+use crate::cell_reads::read_until_fault;
+use rock_disk::{FailedAfter, Station};
 use rock_io::Failed;
 use std::fs::OpenFile;
 use std::os::unix::fs::FileExt;
@@ -45,6 +46,7 @@ impl<F: Drop> FileStation<F> {
 }
 
 impl<F: FileExt + OpenFile + Drop> Station for FileStation<F> {
+    ghost use Rattle.rock_disk.specs.Reads.{width_of};
     ghost use Rattle.rock_file.specs.Cell.{cell_state};
     ghost use Rattle.rock_file.specs.Station.{station_faults};
 
@@ -67,6 +69,25 @@ impl<F: FileExt + OpenFile + Drop> Station for FileStation<F> {
     {
         if self.file.read_exact_at(buf, cell.offset()).is_err() {
             return Err(self.fault());
+        }
+        Ok(())
+    }
+
+    /// Cells that stand side by side are read from the place of the first on, by as few calls as the system makes
+    /// of it. Others are read by a call each.
+    fn read_cells(&mut self, cells: &[FileCell], buf: &mut [u8]) -> Result<(), FailedAfter>
+        requires { length buf.old ≡ width_of (map cell_state cells.now) }
+        ensures within { IfErr result (λ f. f.read < length cells.now) }
+
+        // A failed call counts once, and no other does.
+        ensures ok { OnOk result (station_faults self.new ≡ station_faults self.old) }
+        ensures failed { OnErr result (station_faults self.new ≡ one_more (station_faults self.old)) }
+        ensures faults { station_faults self.old ≤ station_faults self.new }
+    {
+        let read = read_until_fault(&self.file, cells, buf);
+        if read < cells.len() {
+            let _ = self.fault();
+            return Err(FailedAfter { read });
         }
         Ok(())
     }

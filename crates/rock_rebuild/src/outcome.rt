@@ -3,7 +3,7 @@ ghost use Rattle.std.specs.Prelude.{◌≡◌};
 ghost use Rattle.rock_rebuild.specs.declared.outcome.RebuildFault.TheVariants as fault;
 
 use crate::FoundList;
-use rock_io::Failed;
+use rock_disk::FailedAfter;
 use std::alloc::AllocError;
 
 /// What a scan tells of a file.
@@ -37,10 +37,10 @@ pub enum RebuildFault {
     Memory,
 }
 
-impl From<Failed> for RebuildFault {
+impl From<FailedAfter> for RebuildFault {
     ghost from_gives = { λ _ e. e ≡ fault.Failed };
 
-    fn from(_failed: Failed) -> Self {
+    fn from(_failed: FailedAfter) -> Self {
         RebuildFault::Failed
     }
 }

@@ -1,5 +1,5 @@
 // What is kept of the slots of a file.
-ghost use Rattle.std.specs.Prelude.{◌≡◌, ◌+◌, ℕ, List, [], ◌∷◌, ◌++◌, length, max, IfOk, OnOk, MatchOption};
+ghost use Rattle.std.specs.Prelude.{◌≡◌, ◌+◌, ◌*◌, ◌≤◌, ℕ, List, [], ◌∷◌, ◌++◌, length, max, IfOk, OnOk, MatchOption};
 ghost use Rattle.rock_rebuild.specs.Kept.{TellsHeader, TellsHead, SaysHead, HasNoHead};
 ghost use Rattle.slot_cell.specs.Header.{header_of, IsSane};
 
@@ -22,6 +22,7 @@ pub struct Slots {
 }
 
 impl Slots {
+    ghost use Rattle.rock_rebuild.specs.Read.{images_in};
     ghost use Rattle.rock_rebuild.specs.Slots.{AreRead};
 
     /// Room for so many slots, and none yet.
@@ -58,6 +59,33 @@ impl Slots {
         self.greatest = greater_of(self.greatest, header);
         self.table.push(header)?;
         self.heads.push(head)?;
+        Ok(())
+    }
+
+    /// Takes the next `many` slots, from this number on, of a file of `slots` slots of `slot` bytes. Their images
+    /// stand one behind the other.
+    pub fn add_all(
+        &mut self,
+        first: u32,
+        many: u32,
+        slots: u32,
+        slot: u32,
+        images: &[u8],
+    ) -> Result<(), AllocError>
+        requires room { many * slot ≤ length images.now }
+        requires numbers { first + many ≤ slots }
+        ensures read { OnOk result ((before : List (List ℕ)) → length before ≡ first
+            → AreRead slots slot before self.old
+            → AreRead slots slot (before ++ images_in many slot images.now) self.new) }
+        ensures count { OnOk result ((length self.new.table ≡ length self.old.table + many)
+            × (length self.new.heads.items ≡ length self.old.heads.items + many)) }
+    {
+        let mut rest = images;
+        for place in 0..many {
+            let (image, behind) = rest.split_at(slot as usize);
+            self.add(first + place, slots, slot, image)?;
+            rest = behind;
+        }
         Ok(())
     }
 }

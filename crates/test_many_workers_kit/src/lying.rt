@@ -6,11 +6,14 @@ ghost use Rattle.rock_disk.specs.Opened.{HasShape};
 ghost use Rattle.rock_disk.specs.Stations.{ended_of, made_of};
 
 use rock_disk::{
-    Cell, CreateFault, HEADER_NUMBER, OpenFault, Opened, PeekFault, Station, StationFault,
-    Stations, Volume,
+    Cell, CreateFault, FailedAfter, HEADER_NUMBER, OpenFault, Opened, PeekFault, Station,
+    StationFault, Stations, Volume,
 };
 use rock_io::{Failed, Memory};
 use std::alloc::Global;
+
+/// How wide each slot is.
+const SLOT: usize = 512;
 
 /// A cell in memory. It tells proofs nothing of what it holds, so that a station may give other bytes.
 #[derive(Drop)]
@@ -56,6 +59,24 @@ pub struct Liar {
     until: u32,
 }
 
+/// Puts these bytes in front of the others.
+fn put(buf: &mut [u8], bytes: &[u8]) {
+    for (place, byte) in buf.iter_mut().zip(bytes) {
+        *place = *byte;
+    }
+}
+
+impl Liar {
+    /// Gives what the cell holds, or the page.
+    fn give(&mut self, cell: &Veiled, buf: &mut [u8]) {
+        put(buf, &cell.bytes);
+        if self.reads > 0 && self.reads < self.until {
+            put(buf, &self.page);
+        }
+        self.reads = self.reads.saturating_add(1);
+    }
+}
+
 impl Station for Liar {
     type C = Veiled;
 
@@ -66,13 +87,14 @@ impl Station for Liar {
     ghost calls = { λ _. 0 };
 
     fn read(&mut self, cell: &mut Veiled, buf: &mut [u8]) -> Result<(), Failed> {
-        buf.copy_from_slice(&cell.bytes);
-        if self.reads > 0 && self.reads < self.until {
-            for (place, byte) in buf.iter_mut().zip(&self.page) {
-                *place = *byte;
-            }
+        self.give(cell, buf);
+        Ok(())
+    }
+
+    fn read_cells(&mut self, cells: &[Veiled], buf: &mut [u8]) -> Result<(), FailedAfter> {
+        for (cell, part) in cells.iter().zip(buf.chunks_exact_mut(SLOT)) {
+            self.give(cell, part);
         }
-        self.reads = self.reads.saturating_add(1);
         Ok(())
     }
 

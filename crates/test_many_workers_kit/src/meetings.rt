@@ -9,8 +9,8 @@ ghost use Rattle.rock_disk.specs.Stations.{ended_of, made_of};
 ghost use Rattle.rock_io.specs.Faults.{one_more};
 
 use rock_disk::{
-    Cell, CreateFault, HEADER_NUMBER, MemCell, MemStation, MemVolume, OpenFault, Opened, PeekFault,
-    Station, StationFault, Stations, Volume,
+    Cell, CreateFault, FailedAfter, HEADER_NUMBER, MemCell, MemStation, MemVolume, OpenFault,
+    Opened, PeekFault, Station, StationFault, Stations, Volume,
 };
 use rock_io::{Failed, Memory};
 use std::alloc::Global;
@@ -101,6 +101,14 @@ impl Station for MeetingStation {
     fn read(&mut self, cell: &mut MemCell, buf: &mut [u8]) -> Result<(), Failed> {
         let answer = self.inner.read(cell, buf);
         self.counted(answer)
+    }
+
+    fn read_cells(&mut self, cells: &[MemCell], buf: &mut [u8]) -> Result<(), FailedAfter> {
+        let answer = self.inner.read_cells(cells, buf);
+        if answer.is_err() {
+            self.faults = self.faults.saturating_add(1);
+        }
+        answer
     }
 
     fn write(&mut self, cell: &mut MemCell, bytes: &[u8]) -> Result<(), Failed> {

@@ -59,7 +59,7 @@ returns-clause-read g c =
         is = c.winners_and_owners_make_a_rebuild.ensures slot all anchors rebuilt c.requires.some
             (subst (λ n. AreWinners slot all anchors n got.winners) best.count got.are) got.sized got.owned s.greatest;
         counts = record {
-          slots = c.read_slots.auto.cells ∙ count ∙ sym got.sized;
+          slots = count ∙ sym got.sized;
           kept = c.count_chosen.ensures ∙ ap (count_by is_some) (c.deref-4.ensures.value ∙ sym whole) ∙ sym got.many;
           used = c.slots_of_chosen.ensures ∙ ap (sum_by slots_of) (c.deref-5.ensures.value ∙ sym whole) ∙ sym got.used;
           greatest = refl;
@@ -70,5 +70,5 @@ returns-clause-read g c =
 pub returns-clause-counted : goal.returns-clause-counted
 returns-clause-counted g c t =
     let read = returns-clause-read g c in
-    let tally : Tally = record { slots = length c.read_slots.new.cells; kept = c.count_chosen.result; used = c.slots_of_chosen.result; greatest = c.in_ok-slots.slots.greatest } in
+    let tally : Tally = record { slots = length c.args.cells.now; kept = c.count_chosen.result; used = c.slots_of_chosen.result; greatest = c.in_ok-slots.slots.greatest } in
     subst (λ images. IsTally c.args.slot images c.args.anchors tally) (read.1.told t) read.2
