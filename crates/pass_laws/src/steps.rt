@@ -101,7 +101,7 @@ pub fn chains_are_known<X>()
     ensures known { (g : Ground X) (v : View X) (a : ℕ) → (st : Stands g v) → IsPass v → a < g.setting.anchors
         → left_to g v.pass a ≡ true → 2 ≤ stage_of (epoch_of (word st.state a)) → stage_of (epoch_of (word st.state a)) ≤ 4
         → IsSpelled (has g v (Beside Start a)) (λ slot. told g.setting.slots slot (has g v (Link slot)))
-            (chain_of st.state a).slots (chain_of st.state a).end }
+        (chain_of st.state a).slots (chain_of st.state a).end }
     ensures only { (g : Ground X) (v : View X) (a : ℕ) (slots : List ℕ) (end : LinkOf) → (st : Stands g v) → IsPass v
         → a < g.setting.anchors → left_to g v.pass a ≡ true
         → 2 ≤ stage_of (epoch_of (word st.state a)) → stage_of (epoch_of (word st.state a)) ≤ 4

@@ -102,8 +102,11 @@ module _ (g : Ground (List ℕ)) (pass a : ℕ) (lt : a < g.setting.anchors) (le
       -- a tab there is one of the pass
       by_index : (j t : ℕ) (tab : Tab (List ℕ)) → IsTab st.state j t tab → IsTabAt tab a
           → (j ≡ st.index) × (get_elem? v.tabs t ≡ some tab)
-      by_index j t tab x at = (here, subst (λ (u : View (List ℕ)). get_elem? u.tabs t ≡ some tab)
-          (some-injective x.view v (sym x.at ∙ ap (get_elem? st.state.views) here ∙ st.at)) x.there)
+      by_index j t tab x at = (
+        here,
+        subst (λ (u : View (List ℕ)). get_elem? u.tabs t ≡ some tab)
+            (some-injective x.view v (sym x.at ∙ ap (get_elem? st.state.views) here ∙ st.at)) x.there,
+      )
         where
           here : j ≡ st.index
           here = st.rule.alone.apart st.index j t a v tab st.at (has_tabs v nine, left_here) x at

@@ -4,10 +4,10 @@ ghost use Rattle.test_forwarding_kit.specs.Shared.{shared_of};
 ghost use Rattle.test_forwarding_kit.specs.Standing.{IsAtWork, IsScripted};
 
 use crate::serving::{Served, serve_line};
+use crate::shared::{SharedOrigin, shared_lines_may_be_asked};
 use crate::telling::told;
 use rock_disk::{Cell, Station};
 use rock_io::{Failed, MemSink, Sink};
-use crate::shared::{SharedOrigin, shared_lines_may_be_asked};
 use script_text::{Line, Request};
 use std::alloc::Global;
 use std::marker::Model;

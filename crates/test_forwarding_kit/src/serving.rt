@@ -7,9 +7,9 @@ ghost use Rattle.store_serve.specs.Tabs.{Holds, IsFree, Leaves};
 ghost use Rattle.store_serve.specs.declared.tabs.ScriptTab.{ScriptTab as Kept};
 ghost use Rattle.test_forwarding_kit.specs.Standing.{IsReady};
 
+use crate::shared::SharedOrigin;
 use rock_disk::{Cell, Station};
 use rock_io::Memory;
-use crate::shared::SharedOrigin;
 use script_text::{Answer, Line, Request};
 use std::alloc::Global;
 use std::sync::Wait;
