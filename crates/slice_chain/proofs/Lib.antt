@@ -13,4 +13,4 @@ pub mod Evicting
 pub mod KeepingFirst
 pub mod EvictingOne
 pub mod Quieting
-pub mod Wiping
+pub mod WipingFirst

@@ -1,7 +1,7 @@
 use Rattle.std.proofs.Common.{false, sym, true, ◌∙◌}
 use Rattle.std.proofs.lemmas.Result.{on_err_weaker, on_ok_weaker}
 use Rattle.slice_chain.proofs.FreeingChain.{start_fits}
-use Rattle.slice_chain.proofs.Wiping.{first_quiet, follows, has_first, may_slot, wiped_first}
+use Rattle.slice_chain.proofs.WipingFirst.{first_quiet, follows, has_first, may_slot, wiped_first}
 use Rattle.slice_chain.proofs.wiping.wipe_first.Goals as goal
 
 pub first_slot-requires : goal.first_slot-requires

@@ -1,26 +1,27 @@
-use Rattle.std.proofs.Common.{Bool, List, ap, length, subst, true, ◌∙◌, ℕ}
+use Rattle.std.proofs.Common.{Bool, List, ap, length, refl, subst, true, ◌∙◌, ℕ}
 use Rattle.core_model.specs.Tabs.{inner}
 use Rattle.store_rule.specs.Passes.{basis, view}
 use Rattle.slice_chain.specs.Wiping.{WipedSlot}
 use Rattle.slice_chain.specs.Written.{IsWrittenCell, MayBeLeft, WentThrough}
 use Rattle.slice_chain.proofs.ReadingSlots.{when_err, when_ok}
 use Rattle.slice_chain.proofs.Quieting.{wiped_quiet}
-use Rattle.slice_chain.proofs.Wiping.{always_won, done_so, has_cell, has_returned, keeps, may_end, may_put, may_try, wide_enough, wiped, won}
+use Rattle.slice_chain.proofs.Writing.{taken_cell}
+use Rattle.slice_chain.proofs.WipingFirst.{always_won, done_so, has_returned, keeps, may_end, may_put, may_try, wide_enough, wiped, won}
 use Rattle.slice_chain.proofs.wiping.wipe_slot.Goals as goal
 
 pub try_turn-requires : goal.try_turn-requires
 try_turn-requires g c = may_try g.C.Cell.tells g.C.Cell.state g.O.Origin.offers c.args.store.now c.args.pass.now c.args.slot c.requires
 
-pub unreachable-requires-then-not-try_turn : goal.unreachable-requires-then-not-try_turn
-unreachable-requires-then-not-try_turn g c = let won = c.try_turn.ensures.frees (always_won g.C.Cell.tells g.C.Cell.state g.O.Origin.offers c.args.store.now c.args.pass.now c.args.slot c.requires) in
+pub unreachable-requires : goal.unreachable-requires
+unreachable-requires g c = let won = c.try_turn.ensures.frees (always_won g.C.Cell.tells g.C.Cell.state g.O.Origin.offers c.args.store.now c.args.pass.now c.args.slot c.requires) in
     let lost = c.if-not-try_turn.true in cc
 
 pub cell_out-cell-requires-clause-cell : goal.cell_out-cell-requires-clause-cell
 cell_out-cell-requires-clause-cell g c = let p1 = c.try_turn.new.pass in
-    has_cell g.C.Cell.tells g.C.Cell.state g.O.Origin.offers c.args.store.now c.args.pass.now c.args.slot c.requires p1 (won g.C.Cell.tells g.C.Cell.state g.O.Origin.offers c.args.store.now c.args.pass.now c.args.slot c.requires c.try_turn.result p1 c.try_turn.ensures)
+    taken_cell g.C.Cell.tells g.C.Cell.state g.O.Origin.offers c.args.store.now c.args.pass.now p1 inner c.args.slot ((won g.C.Cell.tells g.C.Cell.state g.O.Origin.offers c.args.store.now c.args.pass.now c.args.slot c.requires c.try_turn.result p1 c.try_turn.ensures).taken refl)
 
 pub write_cell-result-requires : goal.write_cell-result-requires
-write_cell-result-requires g c = let p1 = c.try_turn.new.pass in let found = won g.C.Cell.tells g.C.Cell.state g.O.Origin.offers c.args.store.now c.args.pass.now c.args.slot c.requires c.try_turn.result p1 c.try_turn.ensures in let out = c.cell_out-cell in let wrote = c.write_cell-result in
+write_cell-result-requires g c = let p1 = c.try_turn.new.pass in let found = won g.C.Cell.tells g.C.Cell.state g.O.Origin.offers c.args.store.now c.args.pass.now c.args.slot c.requires c.try_turn.result p1 c.try_turn.ensures in let out = c.cell_out-cell in
     ap length c.buffer.ensures ∙ wide_enough g.C.Cell.tells g.C.Cell.state g.O.Origin.offers c.args.store.now c.args.pass.now c.args.slot c.requires p1 found out.result out.new.pass out.ensures.out out.ensures.kept
 
 pub cell_in-requires-clause-home : goal.cell_in-requires-clause-home

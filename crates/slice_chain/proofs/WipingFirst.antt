@@ -117,9 +117,6 @@ module _ {C O : Type 0} (tells : Bool) (state : C → CellState) (offers : O →
     taken : HasTaken tells state offers s p inner slot p1
     taken = found.taken refl
 
-    pub has_cell : (c : C) × HasCell p1 slot c
-    has_cell = (taken.cell, (let e = taken.place in rw e refl))
-
     abbrev cell : Cell (List ℕ)
     cell = shown tells state taken.cell
 
