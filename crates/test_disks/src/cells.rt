@@ -1,14 +1,12 @@
 // Cells in memory: what a read gives, and what a crash may leave.
-ghost use Rattle.std.specs.Prelude.{◌≡◌, ◌*◌, ◌<◌, ◌≤◌, length, map, IfOk, OnOk};
+ghost use Rattle.std.specs.Prelude.{◌≡◌, ◌<◌, ◌≤◌, length, IfOk, OnOk};
 ghost use Rattle.rock_disk.specs.File.{NoneAway};
 ghost use Rattle.rock_disk.specs.Memory.{cell_state, volume_ended, volume_files, volume_made};
-ghost use Rattle.rock_disk.specs.Reads.{width_of};
 
 use crate::rows::calls;
 use rock_disk::{
-    MemCell, MemStation, MemVolume, Opened, Station, Volume, cells_of_one_width_add_up,
-    opened_cells_are_the_files, opened_slots_are_wide_and_few, write_keeps_the_old,
-    write_then_read, write_then_sync,
+    MemCell, MemStation, MemVolume, Opened, Station, Volume, opened_cells_are_the_files,
+    write_keeps_the_old, write_then_read, write_then_sync,
 };
 use std::alloc::{AllocError, Global};
 use std::test::Fail;
@@ -115,71 +113,5 @@ fn writes_as_the_laws_say(rt: HostRuntime) -> Result<(), Fail> {
     assert!(rt; volume.ended() == [0].as_slice());
     assert!(rt; read == *b"one");
     assert!(rt; possible_bytes(alloc, &cell)?.as_slice() == b"twosix".as_slice());
-    Ok(())
-}
-
-/// The slots of a new file, which hold "one", "two" and "six", with a station.
-fn open_three(alloc: Global, volume: &mut MemVolume) -> Result<(MemStation, Vec<MemCell>), Fail>
-    requires home { NoneAway (volume_files volume.old) }
-    requires ended { length (volume_ended volume.old) ≤ volume_made volume.old }
-    ensures width { IfOk result (λ o. width_of (map cell_state o.1.items) ≡ length o.1.items * 3) }
-    ensures ended { OnOk result (length (volume_ended volume.new) < volume_made volume.new) }
-{
-    opened_cells_are_the_files();
-    opened_slots_are_wide_and_few();
-    cells_of_one_width_add_up();
-    let mut file = Vec::new(alloc);
-    file.resize(16_384, 0)?;
-    file.extend_from_slice(b"onetwosix")?;
-    volume.put_file("a", &file)?;
-    let Opened {
-        header: _,
-        cells,
-        bytes: _,
-    } = volume.open_file(alloc, "a", 3)?;
-    Ok((volume.station("a")?, cells))
-}
-
-// The calls of a station that fail: three cells are read at once, twice, by calls 0 to 2 and the three that are next. Then what
-// each answers and leaves in its buffer, and how many calls failed.
-const READ_AT_ONCE: &str = "\
-;Ok(()) onetwosix;Ok(()) onetwosix;[0]
-0;Err(FailedAfter { read: 0 }) .........;Ok(()) onetwosix;[1]
-1;Err(FailedAfter { read: 1 }) one......;Ok(()) onetwosix;[1]
-2;Err(FailedAfter { read: 2 }) onetwo...;Ok(()) onetwosix;[1]
-3;Ok(()) onetwosix;Err(FailedAfter { read: 0 }) .........;[1]
-1,3;Err(FailedAfter { read: 1 }) one......;Err(FailedAfter { read: 1 }) one......;[2]
-5;Ok(()) onetwosix;Err(FailedAfter { read: 2 }) onetwo...;[1]
-6;Ok(()) onetwosix;Ok(()) onetwosix;[0]";
-
-/// Reads three cells at once, twice.
-fn read_twice(alloc: Global, station: &mut MemStation, cells: &[MemCell]) -> Result<String, Fail>
-    requires { width_of (map cell_state cells.now) ≡ length cells.now * 3 }
-{
-    if cells.len() != 3 {
-        return Err(Fail::from("three slots"));
-    }
-    let mut first = *b".........";
-    let mut second = *b".........";
-    let one = station.read_cells(cells, &mut first);
-    let other = station.read_cells(cells, &mut second);
-    let (first, second) = (str::from_utf8(&first)?, str::from_utf8(&second)?);
-    Ok(format!(in alloc; "{one:?} {first};{other:?} {second}")?)
-}
-
-#[test]
-fn reads_cells_up_to_the_call_that_fails(rt: HostRuntime) -> Result<(), Fail> {
-    let alloc = rt.alloc();
-    assert_eq!(rt; READ_AT_ONCE.lines().count(), 8);
-    for row in READ_AT_ONCE.lines() {
-        let (fail, wanted) = fields(row).ok_or("two fields")?;
-        let mut volume = volume_of(alloc, calls(alloc, fail)?)?;
-        let (mut station, cells) = open_three(alloc, &mut volume)?;
-        let read = read_twice(alloc, &mut station, &cells);
-        volume.end_station(station);
-        let (read, faults) = (read?, volume.ended());
-        let told = format!(in alloc; "{read};{faults:?}")?;
-        assert!(rt; told.as_str() == wanted, "{row}");
-    }
     Ok(())
 }

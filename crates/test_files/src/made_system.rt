@@ -1,7 +1,5 @@
 // A made system, in place of the machine's, shows what is asked of a system.
-ghost use Rattle.std.specs.Prelude.{◌≡◌, length, map, IfOk, IsErr};
-ghost use Rattle.rock_disk.specs.Reads.{width_of};
-ghost use Rattle.rock_file.specs.Cell.{cell_state};
+ghost use Rattle.std.specs.Prelude.{IsErr};
 
 use rock_disk::{Cell, Opened, Station, Volume};
 use rock_file::{Access, FileCell, FileStation, FileVolume, LockFile, SaysWhy};
@@ -25,8 +23,8 @@ const LAST: u64 = 34_359_721_984;
 const PIECE: usize = 1_000;
 
 /// A system whose files have the greatest length, and move few bytes in a call. No file of "loose" in
-/// its name is synced, one of "locked" is only read, and of one of "torn" few bytes are read, and of one of "broken" those up to byte
-/// 18,000 alone. Another program has the lock of one of "held", and shares it of one of "shared"; one of "free" has no lock. No further file is opened of "many". A name with "new" is
+/// its name is synced, one of "locked" is only read, and of one of "torn" few bytes are read. Another program has the lock of one
+/// of "held", and shares it of one of "shared"; one of "free" has no lock. No further file is opened of "many". A name with "new" is
 /// free.
 #[derive(Drop)]
 struct Made;
@@ -36,7 +34,6 @@ struct MadeFile {
     is_loose: bool,
     is_locked: bool,
     is_torn: bool,
-    is_broken: bool,
     is_full: bool,
     is_held: bool,
     is_shared: bool,
@@ -52,10 +49,9 @@ fn refused<T>(kind: ErrorKind) -> io::Result<T>
 }
 
 impl FileExt for MadeFile {
-    /// The bytes tell their offset, but for those where 40 zeros were written. Of a torn file the first 1,000 are read, and of a
-    /// broken one no call from byte 18,000 on.
+    /// The bytes tell their offset, but for those where 40 zeros were written. Of a torn file the first 1,000 are read.
     fn read_at(&self, buf: &mut [u8], offset: u64) -> io::Result<usize> {
-        if self.is_torn && offset >= PIECE as u64 || self.is_broken && offset >= 18_000 {
+        if self.is_torn && offset >= PIECE as u64 {
             return refused(ErrorKind::Other);
         }
         let count = buf.len().min(PIECE);
@@ -172,7 +168,6 @@ impl Files for Made {
             is_loose: path.contains("loose"),
             is_locked,
             is_torn: path.contains("torn"),
-            is_broken: path.contains("broken"),
             is_full: path.contains("full"),
             is_held: path.contains("held"),
             is_shared: path.contains("shared"),
@@ -453,85 +448,5 @@ fn a_header_area_is_never_overwritten_with_zeros(rt: HostRuntime) -> Result<(), 
     let mut volume = FileVolume::new(Made, alloc, Access::Writing);
     assert!(rt; header_tried(alloc, &mut volume, "firm")?.as_str() == "true 1");
     assert!(rt; header_tried(alloc, &mut volume, "full")?.as_str() == "false 1");
-    Ok(())
-}
-
-/// Room for what these cells hold, one behind the other.
-fn room_for(alloc: Global, cells: &[FileCell]) -> Result<Vec<u8>, AllocError>
-    ensures { IfOk result (λ room. length room.items ≡ width_of (map cell_state cells.now)) }
-{
-    let mut room = Vec::new(alloc);
-    for place in 0..cells.len() {
-        let end = room.len() + cells[place].width() as usize;
-        room.resize(end, 0)?;
-    }
-    Ok(room)
-}
-
-/// Whether the bytes of the first so many of these cells of 512 bytes stand in front.
-fn are_at(buf: &[u8], cells: &[FileCell], count: usize) -> bool {
-    for (place, part) in buf.chunks(512).enumerate() {
-        let Some(cell) = cells.get(place) else {
-            return false;
-        };
-        if place < count && !is_at(part, 16_384 + 512 * u64::from(cell.number())) {
-            return false;
-        }
-    }
-    true
-}
-
-/// Reads the first five slots of 512 bytes by one call, the first two of them in their order or in the other. What that answers,
-/// and whether the bytes of the slots that were read stand in front.
-fn read_at_once(
-    alloc: Global,
-    volume: &mut FileVolume<Made>,
-    name: &str,
-    order: &str,
-) -> Result<String, Fail> {
-    let Opened {
-        header,
-        mut cells,
-        bytes: _,
-    } = volume.open_file(alloc, name, 512)?;
-    cells.truncate(5);
-    if order == "1 0" && cells.len() == 5 {
-        cells.swap(0, 1);
-    }
-    let mut buf = room_for(alloc, &cells)?;
-    let mut station = volume.station(name)?;
-    let answer = station.read_cells(&cells, &mut buf);
-    volume.end_station(station);
-    let count = match answer {
-        Ok(()) => 5,
-        Err(failed) => failed.read,
-    };
-    let are_at = are_at(&buf, &cells, count);
-    volume.give_back(name, header, cells);
-    Ok(format!(in alloc; "{answer:?} {are_at}")?)
-}
-
-// The name of a file, the order of its first two slots, what a call that reads five slots answers, and whether what was read stands
-// at the front of the buffer. Slots in order are read on by 1,000 bytes a time, so of a broken file 2,000 bytes; each of the
-// others is read by itself, and the fifth begins at byte 18,432.
-const READ_AT_ONCE: &str = "\
-firm;0 1;Ok(()) true
-firm;1 0;Ok(()) true
-broken;0 1;Err(FailedAfter { read: 3 }) true
-broken;1 0;Err(FailedAfter { read: 4 }) true
-torn;0 1;Err(FailedAfter { read: 0 }) true
-torn;1 0;Err(FailedAfter { read: 0 }) true";
-
-#[test]
-fn slots_are_read_at_once_up_to_a_fault(rt: HostRuntime) -> Result<(), Fail> {
-    let alloc = rt.alloc();
-    let mut volume = FileVolume::new(Made, alloc, Access::Writing);
-    assert_eq!(rt; READ_AT_ONCE.lines().count(), 6);
-    for row in READ_AT_ONCE.lines() {
-        let (name, order, wanted) = three_fields(row).ok_or("three fields")?;
-        let told = read_at_once(alloc, &mut volume, name, order)?;
-        assert!(rt; told.as_str() == wanted, "{row}");
-    }
-    assert!(rt; volume.ended() == [0, 0, 1, 1, 1, 1].as_slice());
     Ok(())
 }
