@@ -1,5 +1,5 @@
 -- Lines of one worker alone, as examples.
-use Rattle.std.specs.Prelude.{List, None, Some, [], false, length, replicate, ◌+◌, ◌<◌, ◌∷◌, ◌≡◌, ◌≤◌, ℕ}
+use Rattle.std.specs.Prelude.{List, None, Some, [], false, length, ◌+◌, ◌<◌, ◌∷◌, ◌≡◌, ◌≤◌, ℕ}
 use Rattle.store_key.specs.Anchor.{anchor_of, back_half, front_half}
 use Rattle.store_key.specs.Key.{key_of}
 use Rattle.script_text.specs.declared.answer.Answer.TheVariants as answer
@@ -7,7 +7,6 @@ use Rattle.script_text.specs.declared.body.Body.{Body}
 use Rattle.script_text.specs.declared.body.Body.TheVariants.{Made}
 use Rattle.script_text.specs.declared.request.Request.TheVariants.{Get, Put}
 use Rattle.core_model.specs.declared.moves.Side.TheVariants.{Key0, Key1, Offer}
-use Rattle.core_model.specs.declared.tab.Tab.TheVariants.{Free}
 use Rattle.core_model.specs.declared.view.Kind.TheVariants.{Changed, Drew, Entered, Raised}
 use Rattle.core_model.specs.declared.view.Sight.TheVariants.{Named, Published, Stood}
 use Rattle.core_model.specs.declared.view.View.{View}
