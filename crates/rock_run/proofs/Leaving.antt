@@ -1,5 +1,5 @@
 -- Who may go to an anchor that the lines of a script leave to one pass.
-use Rattle.std.proofs.Common.{◌∙◌, ◌+◌, ◌-◌, ◌<◌, ◌==◌, ◌∷◌, ◌≡◌, ◌⊎◌, Bool, Contains, List, [], ap, arith, cond, eq-eqb, false, refl, sym, true, unwrap_or, ⊎_elim, ℕ}
+use Rattle.std.proofs.Common.{◌∙◌, ◌-◌, ◌==◌, ◌∷◌, ◌≡◌, Bool, Contains, List, [], ap, arith, cond, eq-eqb, false, refl, sym, true, unwrap_or, ⊎_elim, ℕ}
 use Rattle.std.specs.List.{filter, list_all}
 use Rattle.std.specs.Option.{option_map_or}
 use Rattle.std.specs.Prelude.{None, Option, Some, find}
