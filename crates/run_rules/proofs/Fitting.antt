@@ -1,5 +1,5 @@
 -- A store that was opened over a file fits exactly where the script of its lines fits into the file.
-use Rattle.std.proofs.Common.{Bool, IsTrue, List, ap, arith, inl, inr, length, max, min, refl, suc, sum_by, sym, zero, ⊎_elim, ◌+◌, ◌<◌, ◌∙◌, ◌≡◌, ◌≤◌, ◌⊎◌, ℕ}
+use Rattle.std.proofs.Common.{Bool, IsTrue, List, ap, arith, inl, inr, length, max, min, suc, sum_by, sym, zero, ⊎_elim, ◌+◌, ◌<◌, ◌∙◌, ◌≡◌, ◌≤◌, ◌⊎◌, ℕ}
 use Rattle.std.specs.Prelude.{nat_le, nat_lt, ◌↔◌}
 use Rattle.std.specs.List.{range_with_len}
 use Rattle.std.proofs.lemmas.Bool.{and_from, and_parts, le-leb, leb-true, lt-ltb}
@@ -69,7 +69,8 @@ module _ {C : Type 0} (told : Bool) (state : C → CellState) (g : Ground (List 
   unfolding fits
   back f =
       let less = sum_below (most_held slot anchors images script chained) (most_held slot anchors images script f.kept) 0 anchors
-      (λ a lt. let same = ap (λ (n : ℕ). max (min (most_taken anchors slot a script) (length images)) n) (one_number a (chained a) (f.kept a) (kept_there a lt) (f.file a lt)) in omega arith) in
+      (λ a lt. let small : a < anchors = omega (arith, lt) in
+      let same = ap (λ (n : ℕ). max (min (most_taken anchors slot a script) (length images)) n) (one_number a (chained a) (f.kept a) (kept_there a small) (f.file a small)) in omega arith) in
       let same = same_sum in
       let within = f.enough in
       let at_most = le-leb summed g.setting.slots (omega (arith, less, same, within, slots_are)) in

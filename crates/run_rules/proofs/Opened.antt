@@ -128,7 +128,7 @@ module _ {C St : Type 0} (volume_tells told : Bool) (state : C → CellState) (f
     pub above_none : 0 < anchors
     above_none = let from = h.closed.opened.fit.from in omega (arith, from)
 
-    slots_there : 0 < length laws.opening.kept.images
+    pub slots_there : 0 < length laws.opening.kept.images
     slots_there = let fit = h.closed.opened.fit in let from = fit.from in let to = fit.to in let many = laws.opening.kept.many in omega (arith, from, to, many)
 
     unfoldable pub explained : IsExplained volume_tells files name slot anchors workers script answers before after
