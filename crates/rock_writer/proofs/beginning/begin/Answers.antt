@@ -48,6 +48,9 @@ returns-clause-ok g c = let at = c.anchor_of-anchor.ensures.value ∙ ap (λ k. 
 pub returns-clause-long : goal.returns-clause-long
 returns-clause-long g c = ((λ z. absurd (no_err _ _ z)), (λ z. absurd (c.is_too_long.ensures.short c.if-is_too_long.false z)))
 
+pub returns-in-Err-clause-others : goal.returns-in-Err-clause-others
+returns-in-Err-clause-others g c = writing_one g.C.Cell.tells g.C.Cell.state g.O.Origin.offers c.args.store.now c.args.tab c.args.pass.now c.take_anchor.new.pass c.take_anchor.ensures.others
+
 pub returns-clause-others : goal.returns-clause-others
 returns-clause-others g c = writing_on g.C.Cell.tells g.C.Cell.state g.O.Origin.offers c.args.store.now c.args.tab c.args.pass.now c.name_entry.new.pass c.start.new.pass
     (writing_on g.C.Cell.tells g.C.Cell.state g.O.Origin.offers c.args.store.now c.args.tab c.args.pass.now c.clear.new.pass c.name_entry.new.pass
