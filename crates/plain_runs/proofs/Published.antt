@@ -121,7 +121,7 @@ module _ (g : Ground (List ℕ)) where
   returned_has (Retreating a) t slot c v u h q = ap (λ (z : View (List ℕ)). has g z q) h
   returned_has (Reading r) t slot c v u h q = ap (λ (z : View (List ℕ)). has g z q) h
   returned_has (Last a) t slot c v u h q = ap (λ (z : View (List ℕ)). has g z q) h
-  returned_has (Freeing f) t slot c v u h q = ap (λ (z : View (List ℕ)). has g z q) h
+  returned_has (Freeing f) t slot c v u h q = has_same g v u (ap View.mirror h) (ap View.trail h) q
 
   -- writing a slot changes no word but the counter of logged pieces and its turn
   pub wrote_same : (v w : View (List ℕ)) (t : ℕ) (durable done : Bool) → IsPass v → t < inner → WroteSlot g t v durable done w → SameBut g v w (λ q. ⊥)

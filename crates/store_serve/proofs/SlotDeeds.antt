@@ -4,20 +4,21 @@ use Rattle.link_word.specs.declared.link.Link.{Link}
 use Rattle.lock_word.specs.Words.{evicted, raised}
 use Rattle.core_model.specs.AnchorMoves.{deed_of}
 use Rattle.core_model.specs.Layout.{Setting}
-use Rattle.core_model.specs.TableForms.{with_hold}
+use Rattle.core_model.specs.TableForms.{with_hold, with_wiper}
 use Rattle.core_model.specs.Tabs.{tab_at}
 use Rattle.core_model.specs.Trails.{draws, is_draw}
 use Rattle.core_model.specs.declared.tab.Cell.{Cell}
+use Rattle.core_model.specs.declared.tab.Freer.{Freer}
 use Rattle.core_model.specs.declared.tab.Hold.{Hold}
 use Rattle.core_model.specs.declared.tab.Tab.{Tab}
-use Rattle.core_model.specs.declared.tab.Tab.TheVariants.{Writing}
+use Rattle.core_model.specs.declared.tab.Tab.TheVariants.{Freeing, Writing}
 use Rattle.core_model.specs.declared.tab.Writer.{Writer}
 use Rattle.core_model.specs.declared.view.Deed.{Deed}
 use Rattle.core_model.specs.declared.view.Item.{Item}
 use Rattle.core_model.specs.declared.view.Kind.TheVariants.{Changed, Owned, Raised, Searched}
 use Rattle.core_model.specs.declared.view.View.{View}
 use Rattle.store_rule.specs.Ground.{Ground}
-use Rattle.store_rule.specs.Turns.{IsReturned, Lost}
+use Rattle.store_rule.specs.Turns.{IsReturned, Lost, new_hold}
 use Rattle.free_set.specs.Claims.{Claimed, FoundAllTaken}
 use Rattle.slice_chain.specs.Freeing.{Freed}
 use Rattle.slice_chain.specs.Links.{Linked, Located, Published, PublishedFirst, PublishedMore}
@@ -45,8 +46,18 @@ module _ {X : Type 0} {P : Deed → Type 0} where
     deeds = λ d c. inl c;
   })
 
+  -- so does a tab that frees
+  blanked : (v u : View X) (t : ℕ) (f : Freer X) (h : Hold X) → u ≡ with_wiper v t f h → Acted None P v u
+  blanked v u t f h e = subst (λ (z : View X). Acted None P v z) (sym e) (record {
+    keeps = record { pass = refl; seen = λ x c. c; trail = λ x c. c; met = λ a c. c };
+    drawn = λ x. omega arith;
+    draws = omega arith;
+    deeds = λ d c. inl c;
+  })
+
   pub returned : (k : Setting X) (tab : Tab X) (t slot : ℕ) (c : Cell X) (v u : View X) → IsReturned k tab t slot c v u → Acted None P v u
   returned k (Writing w) t slot c v u h = held v u t w h.0 h.2
+  returned k (Freeing f) t slot c v u e = blanked v u t f (new_hold slot c) e
   returned k tab t slot c v u e = same e
 
 module _ {X : Type 0} {g : Ground X} where

@@ -2,16 +2,17 @@
 use Rattle.std.proofs.Common.{Bool, List, Option, inl, inr, refl, subst, sym, ◌≡◌, [], ◌∷◌, ℕ}
 use Rattle.link_word.specs.declared.link.Link.{Link}
 use Rattle.core_model.specs.Layout.{Setting}
-use Rattle.core_model.specs.TableForms.{with_hold}
+use Rattle.core_model.specs.TableForms.{with_hold, with_wiper}
 use Rattle.core_model.specs.Tabs.{tab_at}
 use Rattle.core_model.specs.declared.tab.Cell.{Cell}
+use Rattle.core_model.specs.declared.tab.Freer.{Freer}
 use Rattle.core_model.specs.declared.tab.Hold.{Hold}
 use Rattle.core_model.specs.declared.tab.Tab.{Tab}
-use Rattle.core_model.specs.declared.tab.Tab.TheVariants.{Writing}
+use Rattle.core_model.specs.declared.tab.Tab.TheVariants.{Freeing, Writing}
 use Rattle.core_model.specs.declared.tab.Writer.{Writer}
 use Rattle.core_model.specs.declared.view.View.{View}
 use Rattle.store_rule.specs.Ground.{Ground}
-use Rattle.store_rule.specs.Turns.{IsReturned, Lost}
+use Rattle.store_rule.specs.Turns.{IsReturned, Lost, new_hold}
 use Rattle.free_set.specs.Claims.{Claimed, FoundAllTaken}
 use Rattle.slice_chain.specs.Freeing.{Freed}
 use Rattle.slice_chain.specs.Links.{Linked, Located, Published, PublishedFirst, PublishedMore}
@@ -26,8 +27,12 @@ module _ {X : Type 0} where
   held : (v u : View X) (t : ℕ) (w : Writer X) (h : Hold X) → u ≡ with_hold v t w h → KnowsAll v u
   held v u t w h e = subst (λ (z : View X). KnowsAll v z) (sym e) (record { pass = refl; seen = λ x c. c; trail = λ x c. c; met = λ a c. c })
 
+  blanked : (v u : View X) (t : ℕ) (f : Freer X) (h : Hold X) → u ≡ with_wiper v t f h → KnowsAll v u
+  blanked v u t f h e = subst (λ (z : View X). KnowsAll v z) (sym e) (record { pass = refl; seen = λ x c. c; trail = λ x c. c; met = λ a c. c })
+
   pub returned : (k : Setting X) (tab : Tab X) (t slot : ℕ) (c : Cell X) (v u : View X) → IsReturned k tab t slot c v u → KnowsAll v u
   returned k (Writing w) t slot c v u h = held v u t w h.0 h.2
+  returned k (Freeing f) t slot c v u e = blanked v u t f (new_hold slot c) e
   returned k tab t slot c v u e = same e
 
 module _ {X : Type 0} {g : Ground X} where
