@@ -18,6 +18,7 @@ use Rattle.plain_model.specs.declared.store.Tab.TheVariants.{Free, Reading, Writ
 use Rattle.plain_model.specs.Serving.{after, answers, is_set_before, serve}
 use Rattle.plain_model.specs.Store.{tab_at}
 use Rattle.plain_model.specs.Writing.{Step}
+use Rattle.core_alone.proofs.Renewed.{noted as noted_kind, learned as learned_kind}
 use Rattle.store_rule.specs.declared.store.Note.{Note}
 use Rattle.store_rule.specs.declared.store.Pass.{Pass}
 use Rattle.store_rule.specs.declared.store.Store.{Store}
@@ -131,6 +132,7 @@ module _ {C O St : Type 0} (tells : Bool) (state : C → CellState) (offers : O 
       sights = [];
       item = _;
       view_is = n.view_is;
+      quiet = noted_kind;
     }
 
     sees_learned : (before after : OnShelf C O St) (note : Note C) → before.store ≡ s → Learned tells state offers before note after → SeesMore tells state offers s before.pass after.pass
@@ -139,6 +141,7 @@ module _ {C O St : Type 0} (tells : Bool) (state : C → CellState) (offers : O 
       sights = note_seen note;
       item = _;
       view_is = n.view_is;
+      quiet = learned_kind;
     }
 
     -- what a mark leaves

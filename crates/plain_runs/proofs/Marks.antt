@@ -1,11 +1,17 @@
 -- Marks change nothing of what a pass shows.
-use Rattle.std.proofs.Common.{Contains, Bool, List, [], ap, arith, refl, subst, sym, true, ◌<◌, ◌∷◌, ◌≡◌, ◌∙◌, ℕ}
+use Rattle.std.proofs.Common.{Contains, Bool, List, [], ap, arith, cond, refl, subst, sym, true, ◌<◌, ◌∷◌, ◌≡◌, ◌∙◌, ℕ}
 use Rattle.std.proofs.lemmas.Bool.{false≢true}
 use Rattle.std.proofs.lemmas.List.Elements.{Contains-append_right}
 use Rattle.rock_disk.specs.Cell.{CellState}
+use Rattle.core_alone.specs.Alone.{is_unlinked}
+use Rattle.core_alone.proofs.Renewed.{TellsNoLink}
+use Rattle.core_model.specs.Deeds.{mirrored}
+use Rattle.core_model.specs.Layout.{index}
 use Rattle.core_model.specs.TableForms.{learns}
 use Rattle.core_model.specs.Tabs.{inner, is_free, tab_at}
 use Rattle.core_model.specs.declared.view.Item.{Item}
+use Rattle.core_model.specs.declared.view.Place.{Place}
+use Rattle.core_model.specs.declared.view.Place.TheVariants.{Link}
 use Rattle.core_model.specs.declared.view.Sight.{Sight}
 use Rattle.core_model.specs.declared.view.View.{View}
 use Rattle.plain_model.specs.declared.store.Plain.{Plain}
@@ -16,14 +22,24 @@ use Rattle.tab_states.specs.declared.desks.Desk.{Desk}
 use Rattle.store_rule.specs.declared.store.Pass.{Pass}
 use Rattle.store_rule.specs.declared.store.Store.{Store}
 use Rattle.tab_states.specs.Desks.{buffer_at, draft_at}
-use Rattle.store_rule.specs.Ground.{Offers}
+use Rattle.store_rule.specs.Ground.{Ground, Offers}
 use Rattle.store_rule.specs.Passes.{Keeps, basis, view}
+use Rattle.store_rule.specs.Words.{has}
 use Rattle.store_serve.specs.Tabs.{IsFree, Leaves}
 use Rattle.worker_shelf.proofs.Holding.{Stays}
 use Rattle.plain_runs.specs.Shows.{ShowsTab}
 use Rattle.plain_runs.specs.Words.{Knows, no_guests}
 use Rattle.plain_runs.proofs.Frames.{knows_same}
 use Rattle.plain_runs.specs.Runs.{ShowsPlain}
+
+-- what a pass has of a word stays where it learns, by an item that is of no link
+has_still : {X : Type 0} → (g : Ground X) (v : View X) (sights : List Sight) (item : Item) → TellsNoLink item.kind → (q : Place) → has g (learns v sights item) q ≡ has g v q
+has_still g v sights item quiet (Link slot) =
+    ap (λ (z : Bool). cond z 0 (mirrored g.setting (index g.setting (Link slot)) v.mirror)) same
+  where
+    same : is_unlinked slot (item ∷ v.trail) ≡ is_unlinked slot v.trail
+    same = rw (quiet.not_owned, quiet.not_on_link) refl
+has_still g v sights item quiet q = refl
 
 module _ {C O : Type 0} (tells : Bool) (state : C → CellState) (offers : O → Offers) (s : Store C O) where
   -- the pass has seen more, and stands otherwise as it did
@@ -32,6 +48,7 @@ module _ {C O : Type 0} (tells : Bool) (state : C → CellState) (offers : O →
     pub sights : List Sight
     pub item : Item
     pub view_is : view q ≡ learns (view p) sights item
+    pub quiet : TellsNoLink item.kind
 
   module _ (stays : Stays tells state offers s) (p q : Pass C) (more : SeesMore p q) where
     same_tab : (t : ℕ) → tab_at (view q) t ≡ tab_at (view p) t
@@ -105,4 +122,4 @@ module _ {C O : Type 0} (tells : Bool) (state : C → CellState) (offers : O →
           -- no word has changed
           knows_more : Knows (basis tells state offers s) (λ v. v) (view q) plain no_guests
           knows_more = subst (λ (v : View (List ℕ)). Knows (basis tells state offers s) (λ v. v) v plain no_guests) (sym more.view_is)
-              (knows_same (basis tells state offers s) (λ v. v) (view p) (learns (view p) more.sights more.item) plain no_guests shows.knows record { same = λ place known here none. refl })
+              (knows_same (basis tells state offers s) (λ v. v) (view p) (learns (view p) more.sights more.item) plain no_guests shows.knows record { same = λ place known here none. has_still (basis tells state offers s) (view p) more.sights more.item more.quiet place })
