@@ -100,7 +100,6 @@ module _ {C O : Type 0} (tells : Bool) (state : C → CellState) (offers : O →
   pub record ReadOn (e : Standing) (p : Pass C) (f : Standing) (q : Pass C) : Type 0 where
     pub entry : IsSameEntry e f
     pub other : f.is_other ≡ e.is_other
-    pub halted : f.is_halted ≡ e.is_halted
     pub onward : e.place ≤ f.place
     pub reads : ReadsAs tells state offers s q t f
     pub keeps : GrowsTo (view p) (view q)
@@ -110,7 +109,6 @@ module _ {C O : Type 0} (tells : Bool) (state : C → CellState) (offers : O →
   gives_on e p [] f q bytes h k = record {
     entry = record { anchor = ap Standing.anchor k.0; version = ap Standing.version k.0; offer = ap Standing.offer k.0; url = ap Standing.url k.0 };
     other = ap Standing.is_other k.0;
-    halted = ap Standing.is_halted k.0;
     onward = let z = ap Standing.place k.0 in omega arith;
     reads = subst (λ (z : Standing). ReadsAs tells state offers s q t z) (sym k.0) (subst (λ (z : Pass C). ReadsAs tells state offers s z t e) (sym k.1) h);
     keeps = same (ap view k.1);
@@ -126,7 +124,6 @@ module _ {C O : Type 0} (tells : Bool) (state : C → CellState) (offers : O →
           url = ap Standing.url k.5 ∙ first.entry.url;
         };
         other = ap Standing.is_other k.5 ∙ first.other;
-        halted = ap Standing.is_halted k.5 ∙ first.halted;
         onward = let z = ap Standing.place k.5 in let l = first.onward in omega arith;
         reads = subst (λ (z : Standing). ReadsAs tells state offers s q t z) (sym k.5) (subst (λ (z : Pass C). ReadsAs tells state offers s z t (onward k.0)) (sym k.6) k.4.reads);
         keeps = on first.keeps (on (gave tells state offers s t k.0 k.1 c.before c.after c.left (Piece c.count) k.4) (same (ap view k.6)));

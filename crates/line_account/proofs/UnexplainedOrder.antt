@@ -1,6 +1,6 @@
 -- Lines in an order that no run explains.
 use Rattle.std.proofs.Common.{Bool, Contains, List, [], ap, arith, cond, false, refl, subst, sym, true, ◌∙◌, ◌∷◌, ◌≡◌, ◌≤◌, ◌||◌, ℕ}
-use Rattle.std.specs.Prelude.{IsTrue, None, Some, ◌≢◌}
+use Rattle.std.specs.Prelude.{None, Some, ◌≢◌}
 use Rattle.lock_word.specs.Words.{doom_number, doom_of, epoch_at, epoch_number, version_of}
 use Rattle.lock_word.proofs.Parts.{doom_of-epoch_number, stage_of-epoch_number, version_of-epoch_number}
 use Rattle.lock_word.specs.declared.cause.Cause.TheVariants.{Absent, Leaving}

@@ -1,7 +1,6 @@
 //! Examples: lines in an order that no run explains, for the rules refuse them. Each says by which rule.
-ghost use Rattle.std.specs.Prelude.{◌≡◌, ◌≢◌, ◌∷◌, IsTrue, ℕ, List, [], false, true};
+ghost use Rattle.std.specs.Prelude.{◌≡◌, ◌≢◌, ◌∷◌, ℕ, List, [], false, true};
 ghost use Rattle.lock_word.specs.declared.cause.Cause.{Cause};
-ghost use Rattle.lock_word.specs.declared.epoch.Epoch.{Epoch};
 ghost use Rattle.lock_word.specs.declared.stage.Stage.TheVariants as stage;
 ghost use Rattle.script_text.specs.declared.answer.Answer.{Answer};
 ghost use Rattle.script_text.specs.declared.body.Body.{Body};

@@ -33,7 +33,7 @@ use Rattle.store_rule.proofs.Passing.{pass_of}
 use Rattle.store_rule.specs.Calls.{Follows, IsFresh}
 use Rattle.slice_chain.specs.Reads.{FollowsReading, HoldsPiece, MayReadSlot, ReadSlot, went_on}
 use Rattle.rock_reader.specs.Bodies.{HasUrl, IsOfEntry, body_of}
-use Rattle.rock_reader.specs.Reading.{Delivered, Fails, Gave, GaveBody, GaveNone, HasResponse, HasTried, HasStopped, IsPiece, LookedAt, MayRead, ReadsAs, Standing, TurnsOut, Waits, halting, onward, turned}
+use Rattle.rock_reader.specs.Reading.{Delivered, Fails, Gave, GaveBody, GaveNone, HasResponse, HasTried, IsPiece, LookedAt, MayRead, ReadsAs, Standing, TurnsOut, Waits, halting, onward, turned}
 use Rattle.rock_reader.specs.Responses.{HoldsFile, IsResponse, pieces_of}
 use Rattle.rock_reader.specs.Wanted.{held_at, kept_at, kept_of}
 use Rattle.rock_reader.specs.declared.answer.More.{More}

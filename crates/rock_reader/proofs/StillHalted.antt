@@ -1,7 +1,7 @@
 -- A tab whose entry was found given up looks anew, and finds the same: the entry is given up still, and the slot at its place has no link.
 use Rattle.std.proofs.Common.{List, None, Option, Some, ap, get_or, inl, inr, subst, sym, ◌++◌, ◌≡◌, ◌≤◌, ◌∙◌, ℕ}
 use Rattle.std.specs.Prelude.{unwrap_or}
-use Rattle.lock_word.specs.Words.{epoch_of, stage_number, stage_of, version_of}
+use Rattle.lock_word.specs.Words.{stage_number, stage_of, version_of}
 use Rattle.lock_word.specs.declared.epoch.Epoch.{Epoch}
 use Rattle.lock_word.specs.declared.stage.Stage.{Stage}
 use Rattle.lock_word.proofs.Parts.{same_stage, stage_of-epoch_number, version_of-epoch_number}
