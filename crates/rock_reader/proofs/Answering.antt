@@ -1,5 +1,5 @@
 -- What a reading tab is that does not look again: it was given all, or its entry turned out to be another one.
-use Rattle.std.proofs.Common.{Bool, List, None, Some, ap, arith, false, refl, subst, sym, true, ◌+◌, ◌<◌, ◌≡◌, ◌≢◌, ◌≤◌, ◌⊎◌, ◌∙◌, inl, inr, ⊎_elim, ℕ}
+use Rattle.std.proofs.Common.{Bool, List, None, ap, arith, false, refl, subst, sym, true, ◌+◌, ◌<◌, ◌≡◌, ◌≢◌, ◌≤◌, ◌⊎◌, ◌∙◌, inl, inr, ⊎_elim, ℕ}
 use Rattle.rock_disk.specs.Cell.{CellState}
 use Rattle.core_model.specs.Tabs.{InnerIsFree, OfReader, has_turn, tab_at}
 use Rattle.core_model.specs.declared.tab.Turn.TheVariants.{NoTurn}
@@ -13,6 +13,8 @@ use Rattle.rock_reader.specs.Reading.{IsAtEnd, MayRead, ReadsAs, Standing, Stays
 use Rattle.rock_reader.specs.Wanted.{held_at}
 use Rattle.rock_reader.proofs.Looking.{of_reader}
 use Rattle.rock_reader.proofs.ReadingOn.{reader_of_tab}
+use Rattle.rock_reader.proofs.StillHalted.{none_some}
+use Rattle.rock_reader.proofs.Stopped.{both}
 
 is_true : (b : Bool) → (b ≡ false → ⊥) → b ≡ true
 is_true true h = refl
@@ -21,12 +23,6 @@ is_true false h = absurd (h refl)
 not_other : (b : Bool) → (b ≡ true → ⊥) → b ≡ false
 not_other true h = absurd (h refl)
 not_other false h = refl
-
-none_some : (n : ℕ) → None ≡ Some n → ⊥
-none_some n e = cc
-
-both : (b : Bool) → b ≡ true → b ≡ false → ⊥
-both b e f = let z : true ≡ false = sym e ∙ f in cc
 
 module _ {C O : Type 0} (tells : Bool) (state : C → CellState) (offers : O → Offers) (s : Store C O) (t : ℕ) (p : Pass C) where
   module _ (e : Standing) (reads : ReadsAs tells state offers s p t e) (bytes : List ℕ) where

@@ -31,7 +31,7 @@ use Rattle.rock_reader.proofs.LookedTab.{at_slot, middle_tab}
 same_some : (m n : ℕ) → Some m ≡ Some n → m ≡ n
 same_some m n e = ap (λ (o : Option ℕ). unwrap_or o 0) e
 
-none_some : (n : ℕ) → None ≡ Some n → ⊥
+pub none_some : (n : ℕ) → None ≡ Some n → ⊥
 none_some n e = cc
 
 module _ {X : Type 0} (g : Ground X) (t : ℕ) (v w : View X) (epoch : Epoch) (link : Link) (pass : IsPass v) (le : t ≤ inner) (r : Reader X) (is : tab_at v t ≡ Reading r) (h : LookedAt g t epoch link v w) where

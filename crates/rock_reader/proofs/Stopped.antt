@@ -20,11 +20,9 @@ use Rattle.rock_reader.specs.Reading.{Gave, LookedAt, ReadsAs, Standing}
 use Rattle.rock_reader.specs.declared.answer.More.{More}
 use Rattle.rock_reader.specs.declared.answer.More.TheVariants as more
 use Rattle.rock_reader.proofs.LookedTab.{start_slot}
+use Rattle.rock_reader.proofs.StillHalted.{none_some}
 
-none_some : (slot : ℕ) → None ≡ Some slot → ⊥
-none_some slot e = cc
-
-both : (b : Bool) → b ≡ true → b ≡ false → ⊥
+pub both : (b : Bool) → b ≡ true → b ≡ false → ⊥
 both b e f = let z : true ≡ false = sym e ∙ f in cc
 
 module _ {X : Type 0} (g : Ground X) (t : ℕ) (v : View X) (r : Reader X) (is : tab_at v t ≡ Reading r) (none : r.slot ≡ None) (some : 0 < r.place) where
