@@ -41,11 +41,11 @@ module _ {C O : Type 0} (tells : Bool) (state : C → CellState) (offers : O →
     pub turned_out : OfReader (λ r. (0 < r.place) × (held_at p.desks t ≡ 0)) (tab_at (view p) t) → StaysOther tells state offers s t p e bytes bytes p
     turned_out h = let r = reader_of_tab (λ r. (0 < r.place) × (held_at p.desks t ≡ 0)) (tab_at (view p) t) reads.reader reads.is h in
         let turned : e.is_other ≡ true = is_true e.is_other (λ f. let y = (reads.given f (subst (λ (n : ℕ). 0 < n) reads.place_is r.0)).0 in let z = r.1 in absurd (omega arith)) in record {
-      was = turned;
-      going = not_other e.is_halted (λ f. both e.is_other turned (reads.stopped f).0);
-      still = refl;
-      same = refl;
-    }
+          was = turned;
+          going = not_other e.is_halted (λ f. both e.is_other turned (reads.stopped f).0);
+          still = refl;
+          same = refl;
+        }
 
   -- a tab that has a slot at its place may look
   pub may_locate : (room : ℕ) → MayRead tells state offers s p t room → OfReader (λ r. (r.place ≡ 0) ⊎ ((r.slot ≢ None) × (0 < held_at p.desks t))) (tab_at (view p) t) → MayLocate tells state offers s p t

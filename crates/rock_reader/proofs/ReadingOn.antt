@@ -220,13 +220,16 @@ module _ {C O : Type 0} (tells : Bool) (state : C → CellState) (offers : O →
         held = λ f. subst (λ (n : ℕ). n ≤ g.slot) (sym held1) (reads.held f);
         given = λ f some. let h = reads.given f some in (subst (λ (n : ℕ). 0 < n) (sym held1) h.0, h.1);
         other = λ f. let h = reads.other f in (h.0, held1 ∙ h.1);
-        stopped = λ f. (not_turned known, record {
-          slot = found.linked.slot;
-          knows = refl;
-          found = subst (λ (z : ℕ × ℕ). FoundEnd (view q) z.0 z.1 found.linked.slot) (λ i. (reads.anchor_is i, reads.version_is i))
-              (ends_now g t (view p) (view q) epoch link (pass_of p) le reads.reader reads.is found none halted
-              (unwritten.version_is g t (view p) (view q) epoch (pass_of p) le reads.reader reads.is found0));
-        });
+        stopped = λ f. (
+          not_turned known,
+          record {
+            slot = found.linked.slot;
+            knows = refl;
+            found = subst (λ (z : ℕ × ℕ). FoundEnd (view q) z.0 z.1 found.linked.slot) (λ i. (reads.anchor_is i, reads.version_is i))
+                (ends_now g t (view p) (view q) epoch link (pass_of p) le reads.reader reads.is found none halted
+                (unwritten.version_is g t (view p) (view q) epoch (pass_of p) le reads.reader reads.is found0));
+          },
+        );
       }
 
       pub gave_none : (0 < e.place → 0 < held_at p.desks t) → (before after : List ℕ) → after ≡ before → (r : More) → (epoch.stage ≡ Stage.Appending → r ≡ More.NotYet epoch) → (epoch.stage ≢ Stage.Appending → r ≡ More.Halted) → Gave tells state offers s t p e before after q r

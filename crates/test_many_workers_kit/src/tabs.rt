@@ -120,13 +120,7 @@ impl Tabs {
 
     /// Whether a tab may be answered so that reads a version of which no answer tells who began it. Its line was answered
     /// FULL, so it comes to no END.
-    fn reads_untold(
-        &mut self,
-        told: &Told<'_>,
-        reader: Reader,
-        name: &str,
-        first: &str,
-    ) -> bool {
+    fn reads_untold(&mut self, told: &Told<'_>, reader: Reader, name: &str, first: &str) -> bool {
         let is_halted = name == "HALTED";
         self.reader = Some(Reader {
             is_halted,
