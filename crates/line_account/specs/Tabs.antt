@@ -71,7 +71,8 @@ module _ {X : Type 0} (r : Run X) (crew : List (Worker X)) where
     -- of a later version those of the line that began the version
     pub new : IsTrue r.tells → (a x : ℕ) → (p : LineIn crew (λ earlier s. ReadsOn r.setting.anchors earlier s a x))
         → opening_counter r.setting < x → IsFrontOfLine r crew a x p.served.answer (bytes_with p.earlier p.served)
-    -- Behind END a tab that reads prints END and no byte, behind OTHERURL it prints OTHERURL, and behind HALTED it prints HALTED and no byte.
+    -- Behind END a tab that reads prints END and no byte, behind OTHERURL it prints OTHERURL, and behind HALTED it prints HALTED and no
+    -- byte.
     pub behind_end : (tab : ℕ) → (p : LineIn crew (λ earlier s. ReadsBehind is_end earlier s tab)) → p.served.answer ≡ answer.End []
     pub behind_other : (tab : ℕ) → (p : LineIn crew (λ earlier s. ReadsBehind is_other_url earlier s tab))
         → p.served.answer ≡ answer.OtherUrl
