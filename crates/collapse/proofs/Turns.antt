@@ -31,7 +31,7 @@ takes_some n xs more there same = absurd (let l = ap length same in let m = leng
 module _ {C O : Type 0} (tells : Bool) (state : C → CellState) (offers : O → Offers) (s : Store C O) (t : ℕ) where
   reads_by : (p q : Pass C) (e : Standing) (before after : List ℕ) (answer : More) → GoesOn answer → Gave tells state offers s t p e before after q answer → ReadsAs tells state offers s q t (standing_by e answer)
   reads_by p q e before after (Piece count) goes gave = gave.reads
-  reads_by p q e before after (NotYet epoch) goes gave = gave.waits.stays
+  reads_by p q e before after (NotYet epoch) goes gave = gave.stays
   reads_by p q e before after End goes gave = absurd goes
   reads_by p q e before after Halted goes gave = absurd goes
   reads_by p q e before after OtherUrl goes gave = absurd goes
@@ -102,7 +102,7 @@ module _ {C O : Type 0} (tells : Bool) (state : C → CellState) (offers : O →
     bytes = h.bytes ++ [];
     waits = h.waits + 1;
     follows = (h.standing, u, h.bytes, h.waits, h.follows, tt, gave, refl, refl, refl, refl);
-    reads = gave.waits.stays;
+    reads = gave.stays;
     sent = λ told. h.sent told ∙ ap (λ z. old ++ z) (sym (append-nil h.bytes));
     now_is = let n = h.now_is in omega arith;
     early = λ is. append-nil h.bytes ∙ h.early is;
@@ -160,9 +160,9 @@ module _ {C O : Type 0} (tells : Bool) (state : C → CellState) (offers : O →
   pub reads_after : (e : Standing) (p q : Pass C) (before after : List ℕ) (answer : More) → ReadsAs tells state offers s p t e → Gave tells state offers s t p e before after q answer
       → (f : Standing) × ReadsAs tells state offers s q t f
   reads_after e p q before after (Piece count) reads gave = (_, gave.reads)
-  reads_after e p q before after (NotYet epoch) reads gave = (e, gave.waits.stays)
+  reads_after e p q before after (NotYet epoch) reads gave = (e, gave.stays)
   reads_after e p q before after End reads gave = (e, subst (λ (z : Pass C). ReadsAs tells state offers s z t e) (sym gave.still) reads)
-  reads_after e p q before after Halted reads gave = (e, gave.waits.stays)
+  reads_after e p q before after Halted reads gave = (_, gave.stays)
   reads_after e p q before after OtherUrl reads (inl stays) = (e, subst (λ (z : Pass C). ReadsAs tells state offers s z t e) (sym stays.still) reads)
   reads_after e p q before after OtherUrl reads (inr turns) = (_, turns.reads)
   reads_after e p q before after Fault reads gave = (e, gave.stays)

@@ -14,7 +14,7 @@ use Rattle.core_model.specs.declared.tab.Tab.{Tab}
 use Rattle.core_model.specs.declared.view.Sight.{Sight}
 use Rattle.core_model.specs.declared.view.Sight.TheVariants.{Stood}
 use Rattle.core_model.specs.declared.view.View.{View}
-use Rattle.core_model.specs.Knowing.{KnowsAll}
+use Rattle.store_serve.specs.Growing.{GrowsTo}
 use Rattle.store_rule.specs.Ground.{Ground}
 use Rattle.store_rule.specs.Told.{Steps}
 use Rattle.store_rule.proofs.Moves.{known_of}
@@ -53,7 +53,7 @@ module _ {X : Type 0} {g : Ground X} {t a : ℕ} {v : View X} where
       left : epoch_of (left_by h.drawn (Take t a version) n) ≡ epoch_at version 1
       left = ap (λ (b : Bool). epoch_of (cond b (word_at version 1) n)) won ∙ epoch_of-word_at version 1
 
-  cleared : {n : ℕ} {taken w : View X} → WasVacant g t a v n taken w ⊎ WasIdle g t a v n taken w → KnowsAll taken w
+  cleared : {n : ℕ} {taken w : View X} → WasVacant g t a v n taken w ⊎ WasIdle g t a v n taken w → GrowsTo taken w
   cleared (inl h) = same h.same
   cleared (inr h) = freed h.freed
 

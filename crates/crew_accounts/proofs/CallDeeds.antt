@@ -21,6 +21,7 @@ use Rattle.rock_writer.specs.Finishing.{is_doomed, version_of}
 use Rattle.store_serve.specs.Answers.{answer_to_ended}
 use Rattle.store_serve.specs.Acting.{Acted}
 use Rattle.store_serve.specs.Deeds.{HasNames, Naming, OfBeginning, OfClosing, OfEnding, OfGivingUp, OfHalting, OfLeaving, OfPublishing, OfPurging, OfPutting, OfPuttingInVain, OfRefusing, OfReserving, OfVisiting}
+use Rattle.store_serve.proofs.Grown.{knows_all}
 use Rattle.crew_accounts.proofs.DeedLines as deed
 use Rattle.crew_accounts.proofs.Shown.{ShowsInTurn}
 
@@ -103,7 +104,7 @@ module _ {X : Type 0} (r : Run X) (v w : View X) (earlier : List Served) (s : Se
       → ShowsInTurn r.setting.anchors v w earlier s → Tells r w earlier s
       → (IsTrue r.tells → (e : Epoch) (bytes : List ℕ) → s.answer ≡ answer.Part e bytes → HasPart r v w earlier s (epoch_number e)) → Adds r v earlier s w
   adds_drawing above P acted so shows tells parts = record {
-    keeps = acted.keeps;
+    keeps = knows_all acted.keeps;
     drawn = acted.drawn;
     draws = acted.draws;
     deeds = λ d c. ⊎_elim (λ (o : Contains v.deeds d). inl o) (λ (n : (d.pass ≡ v.pass) × P d). inr (n.0, so d n.1)) (acted.deeds d c);

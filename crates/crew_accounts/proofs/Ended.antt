@@ -5,7 +5,7 @@ use Rattle.lock_word.specs.Words.{doom_of, epoch_of, mode_of, stage_of, version_
 use Rattle.lock_word.specs.declared.stage.Stage.TheVariants.{Closed}
 use Rattle.lock_word.proofs.Testing.{mode_is}
 use Rattle.rock_disk.specs.Cell.{CellState}
-use Rattle.core_model.specs.Knowing.{KnowsAll}
+use Rattle.store_serve.specs.Growing.{GrowsTo}
 use Rattle.core_model.specs.Table.{left_by, place}
 use Rattle.core_model.specs.Tabs.{anchor_of, stage_held, tab_at}
 use Rattle.core_model.specs.Told.{HasVersion}
@@ -101,11 +101,11 @@ module _ {X : Type 0} (name : Naming) where
 
 -- a slot for a piece
 module _ {X : Type 0} (g : Ground X) (t : ℕ) where
-  slot_kept : (hand : ℕ) (v : View X) (slot : ℕ) (w : View X) (after : ℕ) → SlotFor g t hand v slot w after → KnowsAll v w
+  slot_kept : (hand : ℕ) (v : View X) (slot : ℕ) (w : View X) (after : ℕ) → SlotFor g t hand v slot w after → GrowsTo v w
   slot_kept hand v slot w after (inl h) = same h.same
   slot_kept hand v slot w after (inr h) = by_either h.reserved.how
     where
-      by_either : ByClaim g t hand v slot w after ⊎ ByEviction g t hand v slot w after → KnowsAll v w
+      by_either : ByClaim g t hand v slot w after ⊎ ByEviction g t hand v slot w after → GrowsTo v w
       by_either (inl k) = claimed k.claimed
       by_either (inr k) = on (all_taken k.none) (evicted k.evicted)
 
@@ -136,7 +136,7 @@ module _ {C O : Type 0} (tells : Bool) (state : C → CellState) (offers : O →
       let reserved = slot_entry g t name h.middle.hand (view h.middle) k.slot k.reserved q.hand (entry_of tells state offers s t last h.added.writes) k.for_piece in
       published_tab k.slot None k.wrote.written h.finished.linked (wrote_tab reserved k.wrote.wrote) k.wrote.publishes
 
-  linked_keeps : KnowsAll (view p) h.finished.linked
+  linked_keeps : GrowsTo (view p) h.finished.linked
   linked_keeps =
       let g = basis tells state offers s in
       let k = h.finished.wrote in

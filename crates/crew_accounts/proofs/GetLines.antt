@@ -21,7 +21,7 @@ use Rattle.core_model.specs.declared.view.Place.TheVariants.{Beside}
 use Rattle.core_model.specs.declared.view.Sight.TheVariants.{Named, Published, Stood}
 use Rattle.line_account.specs.Accounts.{epoch_in}
 use Rattle.line_account.specs.Answers.{IsPart, ComesIn, HasGiven, HasHit, HasOpened, HasOther, HasPart, IsEntryAt, IsOfOpened, IsSure, IsWhole, Run}
-use Rattle.core_model.specs.Knowing.{KnowsAll}
+use Rattle.store_serve.specs.Growing.{GrowsTo}
 use Rattle.line_account.specs.Lines.{Served, bytes_in}
 use Rattle.line_account.specs.Requests.{IsAnswerTo}
 use Rattle.store_rule.specs.declared.store.Pass.{Pass}
@@ -96,13 +96,13 @@ module _ {C O : Type 0} (tells : Bool) (state : C → CellState) (offers : O →
       so : ReadOn tells state offers s whole_tab (newly (anchor_for g url) version k.offer url) k.opened k.went.standing k.went.middle
       so = gives_on tells state offers s whole_tab (newly (anchor_for g url) version k.offer url) k.opened k.went.calls k.went.standing k.went.middle bytes k.reads k.went.gives
 
-      ended_keeps : KnowsAll (view k.went.middle) (view k.read)
+      ended_keeps : GrowsTo (view k.went.middle) (view k.read)
       ended_keeps = gave tells state offers s whole_tab k.went.standing k.went.middle k.went.before k.went.after k.read ended k.went.ends
 
-      parted_keeps : KnowsAll (view k.read) (view q)
+      parted_keeps : GrowsTo (view k.read) (view q)
       parted_keeps = parted g whole_tab (view k.read) (view q) k.parted
 
-      since_opened : KnowsAll (view k.opened) (view q)
+      since_opened : GrowsTo (view k.opened) (view q)
       since_opened = on so.keeps (on ended_keeps parted_keeps)
 
       -- an epoch that was found behind the pieces, and that at which the entry was opened
@@ -238,7 +238,7 @@ module _ {C O : Type 0} (tells : Bool) (state : C → CellState) (offers : O →
         let some = waits_some tells state offers s whole_tab k.went.middle k.read k.went.standing k.went.before k.went.after epoch on_it.reads w in
         let stage = at_stage epoch Stage.Appending k.went.ends.grows in
         let its : version_of (epoch_number epoch) ≡ k.went.standing.version = version_of-epoch_number epoch ∙ w.version_is in
-        let high = subst (λ (n : ℕ). opening_counter g.setting < n) its (grown_version g (view k.read) k.went.standing.anchor (epoch_number epoch) w.stays.own.stands w.fresh.seen stage) in
+        let high = subst (λ (n : ℕ). opening_counter g.setting < n) its (grown_version g (view k.read) k.went.standing.anchor (epoch_number epoch) k.went.ends.stays.own.stands w.fresh.seen stage) in
         subst (λ (z : Answer). AddsLine tells state offers s told past served line p z q) (sym is)
         (add_it version (more.NotYet epoch) bytes k (answer.Part epoch bytes) 0
         (shows_one r.setting.anchors (view p) (view q) served l url refl (epoch_number epoch) refl (found_turn version (more.NotYet epoch) bytes k (epoch_number epoch)

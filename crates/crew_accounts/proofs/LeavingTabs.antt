@@ -23,6 +23,7 @@ use Rattle.store_rule.specs.Passes.{basis, view}
 use Rattle.store_serve.specs.Acting.{Acted}
 use Rattle.store_serve.specs.Deeds.{OfHalting, OfLeaving, name_of}
 use Rattle.store_serve.proofs.AddingUp.{on, same, wider}
+use Rattle.store_serve.proofs.Grown.{knows_all}
 use Rattle.store_serve.proofs.ReaderDeeds.{parted}
 use Rattle.store_serve.proofs.WriterDeeds.{entry_of, halts}
 use Rattle.store_serve.specs.Whole.{whole_tab}
@@ -133,7 +134,7 @@ module _ {C O : Type 0} (tells : Bool) (state : C → CellState) (offers : O →
 
   pub all_left : (p q : Pass C) → Tracks tells state offers s told past served p → LeftBelow tells state offers s whole_tab p q → LeavesAccount (run_of (basis tells state offers s) told past) (view p) served (view q)
   all_left p q tracks h = let so = left_below whole_tab p q (omega arith) tracks h in record {
-    keeps = so.acted.keeps;
+    keeps = knows_all so.acted.keeps;
     drawn = λ x. so.acted.drawn x ∙ (omega arith);
     draws = so.acted.draws ∙ (omega arith);
     deeds = so.acted.deeds;

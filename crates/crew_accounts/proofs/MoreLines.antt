@@ -17,9 +17,9 @@ use Rattle.core_model.specs.Anchors.{opening_counter}
 use Rattle.core_model.specs.Tabs.{OfReader, tab_at}
 use Rattle.core_model.specs.declared.view.Sight.TheVariants.{Published, Stood}
 use Rattle.script_text.specs.declared.request.Request.TheVariants.{More as MoreOf}
-use Rattle.line_account.specs.Accounts.{HasHalted, epochs_of}
+use Rattle.line_account.specs.Accounts.{epochs_of}
 use Rattle.line_account.specs.Answers.{IsPart, ComesIn, HasGiven, HasOther, HasPart, IsOfOpened, IsSure, IsWhole, Run}
-use Rattle.core_model.specs.Knowing.{KnowsAll}
+use Rattle.store_serve.specs.Growing.{GrowsTo}
 use Rattle.line_account.specs.Deeds.{Began}
 use Rattle.line_account.specs.Lines.{Served, bytes_given, bytes_in, reading, url_named}
 use Rattle.line_account.specs.Requests.{IsAnswerTo}
@@ -28,7 +28,7 @@ use Rattle.store_rule.specs.declared.store.Pass.{Pass}
 use Rattle.store_rule.specs.declared.store.Store.{Store}
 use Rattle.store_rule.specs.Ground.{Ground, Offers, anchor_for, cut_of}
 use Rattle.store_rule.specs.Passes.{basis, view}
-use Rattle.rock_reader.specs.Reading.{ReadsAs, Standing, StaysOther, TurnsOut, turned}
+use Rattle.rock_reader.specs.Reading.{ReadsAs, Standing, StaysOther, TurnsOut, halting, turned}
 use Rattle.rock_reader.specs.Responses.{body_below, pieces_of}
 use Rattle.rock_reader.specs.declared.answer.More.{More}
 use Rattle.rock_reader.specs.declared.answer.More.TheVariants as more
@@ -51,9 +51,9 @@ use Rattle.crew_accounts.proofs.OtherUrls.{entry_key, other_on, other_url}
 use Rattle.crew_accounts.proofs.ReadingOn.{HasSeen, IsSameEntry, ReadOn, gives_on, tried_seen}
 use Rattle.crew_accounts.proofs.Shown.{IsInTurn, ShowsInTurn, shows_none, shows_one, turn_from}
 use Rattle.crew_accounts.proofs.TabLines.{elsewhere}
-use Rattle.crew_accounts.proofs.Stopped.{went_ended, went_turned}
+use Rattle.crew_accounts.proofs.Stopped.{went_ended, went_halted, went_turned}
 use Rattle.crew_accounts.proofs.Telling.{Stays, ToTell, plain, tells_by}
-use Rattle.crew_accounts.proofs.Tracking.{entry_moved, entry_on, halted_on, tracks_on_tab}
+use Rattle.crew_accounts.proofs.Tracking.{entry_moved, entry_on, tracks_on_tab}
 use Rattle.crew_accounts.proofs.TurningAway.{away_adds}
 use Rattle.crew_accounts.proofs.Turns.{waits_turn}
 use Rattle.crew_accounts.proofs.Waiting.{grown_version}
@@ -74,11 +74,20 @@ module _ {C O : Type 0} (tells : Bool) (state : C → CellState) (offers : O →
   itself f = record { anchor = refl; version = refl; offer = refl; url = refl }
 
   -- it stays
-  abbrev pub stays_at : (f : Standing) (m q : Pass C) → ReadsAs tells state offers s q t f → KnowsAll (view m) (view q) → EndedAt f m q
+  abbrev pub stays_at : (f : Standing) (m q : Pass C) → ReadsAs tells state offers s q t f → GrowsTo (view m) (view q) → EndedAt f m q
   stays_at f m q reads keeps = record { last = f; entry = itself f; reads = reads; seen = λ so some. keeps.seen _ (so some) }
 
   abbrev pub still_at : (f : Standing) (m q : Pass C) → ReadsAs tells state offers s m t f → q ≡ m → EndedAt f m q
   still_at f m q reads is = stays_at f m q (subst (λ (z : Pass C). ReadsAs tells state offers s z t f) (sym is) reads) (same (ap view is))
+
+  -- or its writer gave up
+  abbrev pub halts_at : (f : Standing) (m q : Pass C) → ReadsAs tells state offers s q t (halting f) → GrowsTo (view m) (view q) → EndedAt f m q
+  halts_at f m q reads keeps = record {
+    last = halting f;
+    entry = record { anchor = refl; version = refl; offer = refl; url = refl };
+    reads = reads;
+    seen = λ so some. keeps.seen _ (so some);
+  }
 
   -- or it has turned from the entry
   abbrev pub turned_out : (f : Standing) (m q : Pass C) (before after : List ℕ) → ReadsAs tells state offers s m t f → TurnsOut tells state offers s t m f before after q → EndedAt f m q
@@ -129,17 +138,15 @@ module _ {C O : Type 0} (tells : Bool) (state : C → CellState) (offers : O →
     so : ReadOn tells state offers s t h.standing p went.standing went.middle
     so = gives_on tells state offers s t h.standing p went.calls went.standing went.middle bytes h.is went.gives
 
-    -- Behind END it came to END again, with no byte, and behind OTHERURL to that.
+    -- Behind END it came to END again, with no byte, behind OTHERURL to that, and behind HALTED to HALTED again, with no byte.
     was_ended : answered_more is_end t served ≡ true → (why ≡ more.End) × (bytes ≡ [])
     was_ended e = went_ended tells state offers s t h.standing p h.is (h.ended e) q bytes why went
 
     was_turned : answered_more is_turned t served ≡ true → (why ≡ more.OtherUrl) × (bytes ≡ [])
     was_turned e = went_turned tells state offers s t h.standing p h.is (h.turned e) q bytes why went
 
-    -- what was halted before is halted still
-    was_halted : (last : Standing) → last.anchor ≡ h.standing.anchor → last.version ≡ h.standing.version → answered_more is_halted t served ≡ true → HasHalted (view q) last.anchor last.version
-    was_halted last anchor version e = subst (λ (n : ℕ). HasHalted (view q) last.anchor n) (sym version)
-        (subst (λ (n : ℕ). HasHalted (view q) n h.standing.version) (sym anchor) (halted_on (view p) (view q) h.standing.anchor h.standing.version leaves.keeps (h.halted e)))
+    was_halted : answered_more is_halted t served ≡ true → (why ≡ more.Halted) × (bytes ≡ [])
+    was_halted e = went_halted tells state offers s t h.standing p h.is (h.halted e) q bytes why went
 
     -- the line was answered so, or one before it on the tab
     answered_so : (so : Answer → Bool) (a : Answer) (looked : ℕ) → answered_more so t (served_as line a None 0 looked ∷ served) ≡ true → (so a ≡ true) ⊎ (answered_more so t served ≡ true)
@@ -152,34 +159,28 @@ module _ {C O : Type 0} (tells : Bool) (state : C → CellState) (offers : O →
     record IsStopped (a : Answer) (looked : ℕ) (last : Standing) : Type 0 where
       ended : answered_more is_end t (served_as line a None 0 looked ∷ served) ≡ true → HasEnded q t last
       turned : answered_more is_turned t (served_as line a None 0 looked ∷ served) ≡ true → last.is_other ≡ true
-      halted : answered_more is_halted t (served_as line a None 0 looked ∷ served) ≡ true → HasHalted (view q) last.anchor last.version
+      halted : answered_more is_halted t (served_as line a None 0 looked ∷ served) ≡ true → last.is_halted ≡ true
 
-    stopped : (a : Answer) (looked : ℕ) (last : Standing) → last.anchor ≡ h.standing.anchor → last.version ≡ h.standing.version → ((is_end a ≡ true) ⊎ (why ≡ more.End) → HasEnded q t last)
-        → ((is_turned a ≡ true) ⊎ (why ≡ more.OtherUrl) → last.is_other ≡ true) → (is_halted a ≡ true → HasHalted (view q) last.anchor last.version) → IsStopped a looked last
-    stopped a looked last anchor version end other halt = record {
+    stopped : (a : Answer) (looked : ℕ) (last : Standing) → ((is_end a ≡ true) ⊎ (why ≡ more.End) → HasEnded q t last)
+        → ((is_turned a ≡ true) ⊎ (why ≡ more.OtherUrl) → last.is_other ≡ true) → ((is_halted a ≡ true) ⊎ (why ≡ more.Halted) → last.is_halted ≡ true) → IsStopped a looked last
+    stopped a looked last end other halt = record {
       ended = λ e. ⊎_elim (λ (z : is_end a ≡ true). end (inl z)) (λ (z : answered_more is_end t served ≡ true). end (inr (was_ended z).0)) (answered_so is_end a looked e);
       turned = λ e. ⊎_elim (λ (z : is_turned a ≡ true). other (inl z)) (λ (z : answered_more is_turned t served ≡ true). other (inr (was_turned z).0)) (answered_so is_turned a looked e);
-      halted = λ e. ⊎_elim (λ (z : is_halted a ≡ true). halt z) (λ (z : answered_more is_halted t served ≡ true). was_halted last anchor version z) (answered_so is_halted a looked e);
+      halted = λ e. ⊎_elim (λ (z : is_halted a ≡ true). halt (inl z)) (λ (z : answered_more is_halted t served ≡ true). halt (inr (was_halted z).0)) (answered_so is_halted a looked e);
     }
 
-    anchor_same : went.standing.anchor ≡ h.standing.anchor
-    anchor_same = so.entry.anchor
-
-    version_same : went.standing.version ≡ h.standing.version
-    version_same = so.entry.version
-
-    -- it is stopped by none of these, but for what was halted before
-    goes_on : (a : Answer) (looked : ℕ) → is_end a ≡ false → (why ≡ more.End → ⊥) → is_turned a ≡ false → (why ≡ more.OtherUrl → ⊥) → (is_halted a ≡ true → HasHalted (view q) went.standing.anchor went.standing.version) → IsStopped a looked went.standing
-    goes_on a looked no_end not_end no_other not_other halt = stopped a looked went.standing anchor_same version_same (λ z. absurd (neither (is_end a) (why ≡ more.End) no_end not_end z))
-        (λ z. absurd (neither (is_turned a) (why ≡ more.OtherUrl) no_other not_other z)) halt
+    -- it is stopped by none of these
+    goes_on : (a : Answer) (looked : ℕ) → is_end a ≡ false → (why ≡ more.End → ⊥) → is_turned a ≡ false → (why ≡ more.OtherUrl → ⊥) → is_halted a ≡ false → (why ≡ more.Halted → ⊥) → IsStopped a looked went.standing
+    goes_on a looked no_end not_end no_other not_other no_halt not_halt = stopped a looked went.standing (λ z. absurd (neither (is_end a) (why ≡ more.End) no_end not_end z))
+        (λ z. absurd (neither (is_turned a) (why ≡ more.OtherUrl) no_other not_other z)) (λ z. absurd (neither (is_halted a) (why ≡ more.Halted) no_halt not_halt z))
 
     -- what the line tells behind such an answer
     stays_so : (a : Answer) (looked : ℕ) → ((why ≡ more.End) × (bytes ≡ []) → a ≡ answer.End []) → ((why ≡ more.OtherUrl) × (bytes ≡ []) → a ≡ answer.OtherUrl)
-        → (HasHalted (view q) went.standing.anchor went.standing.version → (e : Epoch) (gave : List ℕ) → a ≡ answer.Part e gave → ⊥) → Stays r (view q) served (served_as line a None 0 looked)
-    stays_so a looked end other part = record {
+        → ((why ≡ more.Halted) × (bytes ≡ []) → a ≡ answer.Halted []) → Stays r (view q) served (served_as line a None 0 looked)
+    stays_so a looked end other halt = record {
       behind_end = λ u b. end (was_ended (behind_here is_end u b));
       behind_other = λ u b. other (was_turned (behind_here is_turned u b));
-      no_part = λ u e gave b is. part (was_halted went.standing anchor_same version_same (behind_here is_halted u b)) e gave is;
+      behind_halted = λ u b. halt (was_halted (behind_here is_halted u b));
     }
       where
         behind_here : (f : Answer → Bool) (u : ℕ) → ReadsBehind f served (served_as line a None 0 looked) u → answered_more f t served ≡ true
@@ -252,7 +253,7 @@ module _ {C O : Type 0} (tells : Bool) (state : C → CellState) (offers : O →
     of_opened a looked e version first opened_is =
         version ∙ so.entry.version ∙ sym h.version ∙ ap (λ (z : Served). version_of z.opened) (same_line h.first first (sym h.reads ∙ opened_is))
 
-    keeps_on : KnowsAll (view went.middle) (view q)
+    keeps_on : GrowsTo (view went.middle) (view q)
     keeps_on = gave tells state offers s t went.standing went.middle went.before went.after q why went.ends
 
     -- the bytes of an answer, behind those of before
@@ -291,6 +292,43 @@ module _ {C O : Type 0} (tells : Bool) (state : C → CellState) (offers : O →
           (λ low. sym reader.offer ∙ reader.entry.old (let v = reader.version in omega arith)) from (view q) served (served_as line a None 0 looked) h.first h.reads reader.named reader.anchor reader.version reader.entry reader.offer
           (all_bytes y mine a looked is) reader.shown sure (λ z. absurd (whole z)) (view p) e version seen some high more least
 
+    -- The line HALTED, where the tab is halted then. Its epoch is the one looked at, of the version that the tab reads.
+    module _ (epoch : Epoch) (at : EndedAt tells state offers s t went.standing went.middle q) (place_is : at.last.place ≡ went.standing.place) (same_url : at.last.is_other ≡ went.standing.is_other) (last_halted : at.last.is_halted ≡ true)
+        (was : went.standing.is_other ≡ false) (some : 0 < went.standing.place) (is_why : why ≡ more.Halted) where
+      abbrev halted_answer : Answer
+      halted_answer = answer.Halted bytes
+
+      abbrev n : ℕ
+      n = epoch_number epoch
+
+      unturned : at.last.is_other ≡ false
+      unturned = same_url ∙ was
+
+      halted_bytes : IsTrue told → bytes_given t (served_as line halted_answer None 0 n ∷ served) ≡ body_below g at.last.anchor at.last.offer at.last.place
+      halted_bytes y = all_bytes y (sym so.other ∙ was) halted_answer n refl ∙ (λ i. body_below g (sym at.entry.anchor i) (sym at.entry.offer i) (sym place_is i))
+
+      halted_stop : IsStopped halted_answer n at.last
+      halted_stop = stopped halted_answer n at.last (λ z. absurd (neither false (why ≡ more.End) refl (λ w. let c : more.Halted ≡ more.End = sym is_why ∙ w in cc) z))
+          (λ z. absurd (neither false (why ≡ more.OtherUrl) refl (λ w. let c : more.Halted ≡ more.OtherUrl = sym is_why ∙ w in cc) z)) (λ z. last_halted)
+
+      abbrev halted_reader : IsReader tells state offers s told past (served_as line halted_answer None 0 n ∷ served) q t
+      halted_reader = reader_at halted_answer n at halted_stop (λ y z. halted_bytes y) (λ y z. absurd (one_bool at.last.is_other z unturned)) (λ y z. absurd (one_bool at.last.is_other z unturned))
+
+      halted_given : IsTrue told → HasGiven r (view q) served (served_as line halted_answer None 0 n)
+      halted_given y =
+          let reader = halted_reader in
+          given_of tells state offers s told past (told_so y) y t q at.last at.reads unturned reader.new
+          (λ low. sym reader.offer ∙ reader.entry.old (let v = reader.version in omega arith)) from (view q) served (served_as line halted_answer None 0 n) h.first h.reads reader.named reader.anchor reader.version reader.entry reader.offer
+          (halted_bytes y) reader.shown (λ z. subst (λ (k : ℕ). 0 < k) (sym place_is) some) (λ z. absurd z) (λ z. absurd z)
+
+      halted_line : epoch.stage ≡ Stage.Halted → epoch.version ≡ went.standing.version → IsInTurn went.standing.anchor n (view went.middle) (view q) → AddsLine tells state offers s told past served line p halted_answer q
+      halted_line stage version turn = add_it halted_answer n
+          (stays_so halted_answer n (λ z. absurd (let c : more.Halted ≡ more.End = sym is_why ∙ z.0 in cc)) (λ z. absurd (let c : more.Halted ≡ more.OtherUrl = sym is_why ∙ z.0 in cc)) (λ z. ap answer.Halted z.1))
+          (shows_one r.setting.anchors (view p) (view q) served (served_as line halted_answer None 0 n) h.standing.url at_url n refl (found_turn n turn))
+          halted_reader
+          (at_stage epoch Stage.Halted stage, of_opened halted_answer n n (version_of-epoch_number epoch ∙ version), (λ y. halted_given y))
+          (λ y e gave z. absurd (let w : answer.Halted bytes ≡ answer.Part e gave = z in cc)) tt (λ x z. z) (λ x z. z) (λ z. cc)
+
     -- where the tab turned from the entry, or had
     is_other_url : StaysOther tells state offers s t went.middle went.standing went.before went.after q ⊎ TurnsOut tells state offers s t went.middle went.standing went.before went.after q → IsTrue told → IsOtherUrl r went.standing
     is_other_url (inl k) y = other_on r h.standing went.standing so.entry.offer so.entry.url (h.other y (sym so.other ∙ k.was))
@@ -322,13 +360,13 @@ module _ {C O : Type 0} (tells : Bool) (state : C → CellState) (offers : O →
     none_before : IsTrue told → went.standing.is_other ≡ false → went.standing.place ≡ 0 → bytes_given t served ≡ []
     none_before y was first = h.given y (sym so.other ∙ was) ∙ ap (body_below g h.standing.anchor h.standing.offer) (let z = so.onward in let w : h.standing.place ≡ 0 = omega arith in w)
 
-    turned_reader : (why ≡ more.End → ⊥) → StaysOther tells state offers s t went.middle went.standing went.before went.after q ⊎ TurnsOut tells state offers s t went.middle went.standing went.before went.after q → (IsTrue told → IsOtherUrl r went.standing)
+    turned_reader : (why ≡ more.End → ⊥) → (why ≡ more.Halted → ⊥) → StaysOther tells state offers s t went.middle went.standing went.before went.after q ⊎ TurnsOut tells state offers s t went.middle went.standing went.before went.after q → (IsTrue told → IsOtherUrl r went.standing)
         → IsReader tells state offers s told past (served_as line answer.OtherUrl None 0 0 ∷ served) q t
-    turned_reader not_end (inl k) its = reader_at answer.OtherUrl 0 (still_at tells state offers s t went.standing went.middle q so.reads k.still)
-        (stopped answer.OtherUrl 0 went.standing anchor_same version_same (λ z. absurd (neither false (why ≡ more.End) refl not_end z)) (λ z. k.was) (λ z. absurd (one_bool false z refl))) (λ y z. absurd (one_bool went.standing.is_other k.was z))
+    turned_reader not_end not_halted (inl k) its = reader_at answer.OtherUrl 0 (still_at tells state offers s t went.standing went.middle q so.reads k.still)
+        (stopped answer.OtherUrl 0 went.standing (λ z. absurd (neither false (why ≡ more.End) refl not_end z)) (λ z. k.was) (λ z. absurd (neither false (why ≡ more.Halted) refl not_halted z))) (λ y z. absurd (one_bool went.standing.is_other k.was z))
         (λ y z. no_bytes ∙ h.none y (sym so.other ∙ k.was)) (λ y z. its y)
-    turned_reader not_end (inr k) its = reader_at answer.OtherUrl 0 (turned_out tells state offers s t went.standing went.middle q went.before went.after so.reads k)
-        (stopped answer.OtherUrl 0 (turned went.standing) anchor_same version_same (λ z. absurd (neither false (why ≡ more.End) refl not_end z)) (λ z. refl) (λ z. absurd (one_bool false z refl))) (λ y z. absurd (let w : true ≡ false = z in cc))
+    turned_reader not_end not_halted (inr k) its = reader_at answer.OtherUrl 0 (turned_out tells state offers s t went.standing went.middle q went.before went.after so.reads k)
+        (stopped answer.OtherUrl 0 (turned went.standing) (λ z. absurd (neither false (why ≡ more.End) refl not_end z)) (λ z. refl) (λ z. absurd (neither false (why ≡ more.Halted) refl not_halted z))) (λ y z. absurd (let w : true ≡ false = z in cc))
         (λ y z. no_bytes ∙ none_before y k.was (k.url ((told_so y).cells y) ((told_so y).file y)).0) (λ y z. other_on r went.standing (turned went.standing) refl refl (its y))
 
   more_read : (tracks : Tracks tells state offers s told past served p) (leaves : Leaves tells state offers s t p q) (h : IsReader tells state offers s told past served p t) (why : More) (bytes : List ℕ)
@@ -340,11 +378,11 @@ module _ {C O : Type 0} (tells : Bool) (state : C → CellState) (offers : O →
       let some = waits_some tells state offers s t went.middle q went.standing went.before went.after epoch (so tracks leaves h (more.NotYet epoch) bytes went).reads k.waits in
       let stage = at_stage epoch Stage.Appending k.grows in
       let version : version_of (epoch_number epoch) ≡ went.standing.version = version_of-epoch_number epoch ∙ k.waits.version_is in
-      let high = subst (λ (n : ℕ). opening_counter g.setting < n) version (grown_version g (view q) went.standing.anchor (epoch_number epoch) k.waits.stays.own.stands k.waits.fresh.seen stage) in
-      let stop = goes_on tracks leaves h (more.NotYet epoch) bytes went (answer.Part epoch bytes) 0 refl (λ z. cc) refl (λ z. cc) (λ z. absurd (one_bool false z refl)) in
+      let high = subst (λ (n : ℕ). opening_counter g.setting < n) version (grown_version g (view q) went.standing.anchor (epoch_number epoch) k.stays.own.stands k.waits.fresh.seen stage) in
+      let stop = goes_on tracks leaves h (more.NotYet epoch) bytes went (answer.Part epoch bytes) 0 refl (λ z. cc) refl (λ z. cc) refl (λ z. cc) in
       let on = stays_so tracks leaves h (more.NotYet epoch) bytes went (answer.Part epoch bytes) 0 (λ z. absurd (let w : more.NotYet epoch ≡ more.End = z.0 in cc)) (λ z. absurd (let w : more.NotYet epoch ≡ more.OtherUrl = z.0 in cc))
-      (λ halt e gave z. let low = k.stages halt.epoch halt.seen halt.version_is in let four = halt.halted in omega arith) in
-      let reader = stays_reader tracks leaves h (more.NotYet epoch) bytes went (answer.Part epoch bytes) 0 refl k.waits.was stop k.waits.stays in
+      (λ z. absurd (let w : more.NotYet epoch ≡ more.Halted = z.0 in cc)) in
+      let reader = stays_reader tracks leaves h (more.NotYet epoch) bytes went (answer.Part epoch bytes) 0 refl k.waits.was stop k.stays in
       subst (λ (z : Answer). AddsLine tells state offers s told past served line p z q) (sym is)
       (add_it tracks leaves h (more.NotYet epoch) bytes went (answer.Part epoch bytes) 0 on
       (shows_one r.setting.anchors (view p) (view q) served l h.standing.url (at_url tracks leaves h (more.NotYet epoch) bytes went) (epoch_number epoch) refl (found_turn tracks leaves h (more.NotYet epoch) bytes went (epoch_number epoch)
@@ -352,13 +390,13 @@ module _ {C O : Type 0} (tells : Bool) (state : C → CellState) (offers : O →
       reader (
         stage,
         of_opened tracks leaves h (more.NotYet epoch) bytes went (answer.Part epoch bytes) 0 (epoch_number epoch) version,
-        (λ y. has_given tracks leaves h (more.NotYet epoch) bytes went (answer.Part epoch bytes) 0 refl k.waits.was stop k.waits.stays y (λ z. some) (λ z. absurd z) (λ z. (
+        (λ y. has_given tracks leaves h (more.NotYet epoch) bytes went (answer.Part epoch bytes) 0 refl k.waits.was stop k.stays y (λ z. some) (λ z. absurd z) (λ z. (
           some,
           reader.new high,
           waits_more tells state offers s t went.middle q went.standing went.before went.after epoch (so tracks leaves h (more.NotYet epoch) bytes went).reads k.waits high,
         ))),
       )
-      (λ y e gave z. part_at e gave z (has_part tracks leaves h (more.NotYet epoch) bytes went (answer.Part epoch bytes) 0 refl k.waits.was stop k.waits.stays y (epoch_number epoch) (λ x. some) (λ x. x) version k.waits.fresh.seen some (reader.new high)
+      (λ y e gave z. part_at e gave z (has_part tracks leaves h (more.NotYet epoch) bytes went (answer.Part epoch bytes) 0 refl k.waits.was stop k.stays y (epoch_number epoch) (λ x. some) (λ x. x) version k.waits.fresh.seen some (reader.new high)
       (waits_more tells state offers s t went.middle q went.standing went.before went.after epoch (so tracks leaves h (more.NotYet epoch) bytes went).reads k.waits high) (λ n c. k.waits.published n (leaves.keeps.seen _ c))))
       tt (λ x z. z) (λ x z. z) (λ z. cc))
     where
@@ -368,9 +406,9 @@ module _ {C O : Type 0} (tells : Bool) (state : C → CellState) (offers : O →
       let k = went.ends in
       let reads = subst (λ (z : Pass C). ReadsAs tells state offers s z t went.standing) (sym k.still) (so tracks leaves h more.End bytes went).reads in
       let at : HasEnded q t went.standing = record { was = k.was; some = k.some; none = subst (λ (z : Pass C). OfReader (λ r. r.slot ≡ None) (tab_at (view z) t)) (sym k.still) k.ended } in
-      let stop = stopped tracks leaves h more.End bytes went (answer.End bytes) 0 went.standing (anchor_same tracks leaves h more.End bytes went) (version_same tracks leaves h more.End bytes went) (λ z. at)
-      (λ z. absurd (neither false (more.End ≡ more.OtherUrl) refl (λ w. cc) z)) (λ z. absurd (one_bool false z refl)) in
-      let on = stays_so tracks leaves h more.End bytes went (answer.End bytes) 0 (λ z. ap answer.End z.1) (λ z. absurd (let w : more.End ≡ more.OtherUrl = z.0 in cc)) (λ halt e gave z. absurd (let w : answer.End bytes ≡ answer.Part e gave = z in cc)) in
+      let stop = stopped tracks leaves h more.End bytes went (answer.End bytes) 0 went.standing (λ z. at)
+      (λ z. absurd (neither false (more.End ≡ more.OtherUrl) refl (λ w. cc) z)) (λ z. absurd (neither false (more.End ≡ more.Halted) refl (λ w. cc) z)) in
+      let on = stays_so tracks leaves h more.End bytes went (answer.End bytes) 0 (λ z. ap answer.End z.1) (λ z. absurd (let w : more.End ≡ more.OtherUrl = z.0 in cc)) (λ z. absurd (let w : more.End ≡ more.Halted = z.0 in cc)) in
       subst (λ (z : Answer). AddsLine tells state offers s told past served line p z q) (sym is)
       (add_it tracks leaves h more.End bytes went (answer.End bytes) 0 on (no_epoch tracks leaves h more.End bytes went (answer.End bytes) refl)
       (stays_reader tracks leaves h more.End bytes went (answer.End bytes) 0 refl k.was stop reads)
@@ -378,35 +416,23 @@ module _ {C O : Type 0} (tells : Bool) (state : C → CellState) (offers : O →
       (λ y e gave z. absurd (let w : answer.End bytes ≡ answer.Part e gave = z in cc)) tt (λ x z. z) (λ x z. z) (λ z. cc))
   more_read tracks leaves h more.Halted bytes went a is =
       let k = went.ends in
-      let l = served_as line (answer.Halted bytes) None 0 (epoch_number k.epoch) in
-      let some = waits_some tells state offers s t went.middle q went.standing went.before went.after k.epoch (so tracks leaves h more.Halted bytes went).reads k.waits in
-      let seen : HasHalted (view q) went.standing.anchor went.standing.version =
-      record { epoch = epoch_number k.epoch; version_is = version_of-epoch_number k.epoch ∙ k.waits.version_is; halted = at_stage k.epoch Stage.Halted k.halted; seen = k.waits.fresh.seen } in
-      let stop = goes_on tracks leaves h more.Halted bytes went (answer.Halted bytes) (epoch_number k.epoch) refl (λ z. cc) refl (λ z. cc) (λ z. seen) in
-      let on = stays_so tracks leaves h more.Halted bytes went (answer.Halted bytes) (epoch_number k.epoch) (λ z. absurd (let w : more.Halted ≡ more.End = z.0 in cc)) (λ z. absurd (let w : more.Halted ≡ more.OtherUrl = z.0 in cc))
-      (λ halt e gave z. absurd (let w : answer.Halted bytes ≡ answer.Part e gave = z in cc)) in
+      let its = so tracks leaves h more.Halted bytes went in
       subst (λ (z : Answer). AddsLine tells state offers s told past served line p z q) (sym is)
-      (add_it tracks leaves h more.Halted bytes went (answer.Halted bytes) (epoch_number k.epoch) on
-      (shows_one r.setting.anchors (view p) (view q) served l h.standing.url (at_url tracks leaves h more.Halted bytes went) (epoch_number k.epoch) refl (found_turn tracks leaves h more.Halted bytes went (epoch_number k.epoch)
-      (waits_turn tells state offers s t went.middle q went.standing went.before went.after k.epoch (so tracks leaves h more.Halted bytes went).reads k.waits)))
-      (stays_reader tracks leaves h more.Halted bytes went (answer.Halted bytes) (epoch_number k.epoch) refl k.waits.was stop k.waits.stays) (
-        at_stage k.epoch Stage.Halted k.halted,
-        of_opened tracks leaves h more.Halted bytes went (answer.Halted bytes) (epoch_number k.epoch) (epoch_number k.epoch) (version_of-epoch_number k.epoch ∙ k.waits.version_is),
-        (λ y. has_given tracks leaves h more.Halted bytes went (answer.Halted bytes) (epoch_number k.epoch) refl k.waits.was stop k.waits.stays y (λ z. some) (λ z. absurd z) (λ z. absurd z)),
-      )
-      (λ y e gave z. absurd (let w : answer.Halted bytes ≡ answer.Part e gave = z in cc)) tt (λ x z. z) (λ x z. z) (λ z. cc))
+      (halted_line tracks leaves h more.Halted bytes went k.epoch (halts_at tells state offers s t went.standing went.middle q k.stays (keeps_on tracks leaves h more.Halted bytes went))
+      refl refl refl k.waits.was (waits_some tells state offers s t went.middle q went.standing went.before went.after k.epoch its.reads k.waits) refl k.halted k.waits.version_is
+      (waits_turn tells state offers s t went.middle q went.standing went.before went.after k.epoch its.reads k.waits))
   more_read tracks leaves h more.OtherUrl bytes went a is =
       let its = is_other_url tracks leaves h more.OtherUrl bytes went went.ends in
       subst (λ (z : Answer). AddsLine tells state offers s told past served line p z q) (sym is)
       (add_it tracks leaves h more.OtherUrl bytes went answer.OtherUrl 0
-      (stays_so tracks leaves h more.OtherUrl bytes went answer.OtherUrl 0 (λ z. absurd (let w : more.OtherUrl ≡ more.End = z.0 in cc)) (λ z. refl) (λ halt e gave z. absurd (let w : answer.OtherUrl ≡ answer.Part e gave = z in cc)))
-      (no_epoch tracks leaves h more.OtherUrl bytes went answer.OtherUrl refl) (turned_reader tracks leaves h more.OtherUrl bytes went (λ z. cc) went.ends its)
+      (stays_so tracks leaves h more.OtherUrl bytes went answer.OtherUrl 0 (λ z. absurd (let w : more.OtherUrl ≡ more.End = z.0 in cc)) (λ z. refl) (λ z. absurd (let w : more.OtherUrl ≡ more.Halted = z.0 in cc)))
+      (no_epoch tracks leaves h more.OtherUrl bytes went answer.OtherUrl refl) (turned_reader tracks leaves h more.OtherUrl bytes went (λ z. cc) (λ z. cc) went.ends its)
       (λ y. has_other tracks leaves h more.OtherUrl bytes went its y)
       (λ y e gave z. absurd (let w : answer.OtherUrl ≡ answer.Part e gave = z in cc)) tt (λ x z. z) (λ x z. z) (λ z. cc))
   more_read tracks leaves h more.Fault bytes went a is =
-      let stop = goes_on tracks leaves h more.Fault bytes went (answer.ReadFault bytes) 0 refl (λ z. cc) refl (λ z. cc) (λ z. absurd (one_bool false z refl)) in
+      let stop = goes_on tracks leaves h more.Fault bytes went (answer.ReadFault bytes) 0 refl (λ z. cc) refl (λ z. cc) refl (λ z. cc) in
       let on = stays_so tracks leaves h more.Fault bytes went (answer.ReadFault bytes) 0 (λ z. absurd (let w : more.Fault ≡ more.End = z.0 in cc)) (λ z. absurd (let w : more.Fault ≡ more.OtherUrl = z.0 in cc))
-      (λ halt e gave z. absurd (let w : answer.ReadFault bytes ≡ answer.Part e gave = z in cc)) in
+      (λ z. absurd (let w : more.Fault ≡ more.Halted = z.0 in cc)) in
       subst (λ (z : Answer). AddsLine tells state offers s told past served line p z q) (sym is)
       (add_it tracks leaves h more.Fault bytes went (answer.ReadFault bytes) 0 on (no_epoch tracks leaves h more.Fault bytes went (answer.ReadFault bytes) refl)
       (stays_reader tracks leaves h more.Fault bytes went (answer.ReadFault bytes) 0 refl went.ends.was stop went.ends.stays)

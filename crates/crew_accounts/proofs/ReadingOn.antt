@@ -14,7 +14,7 @@ use Rattle.core_model.specs.declared.tab.Tab.TheVariants as tab
 use Rattle.core_model.specs.declared.view.Sight.{Sight}
 use Rattle.core_model.specs.declared.view.Sight.TheVariants.{Published}
 use Rattle.core_model.specs.declared.view.View.{View}
-use Rattle.core_model.specs.Knowing.{KnowsAll}
+use Rattle.store_serve.specs.Growing.{GrowsTo}
 use Rattle.store_rule.specs.declared.store.Pass.{Pass}
 use Rattle.store_rule.specs.declared.store.Store.{Store}
 use Rattle.store_rule.specs.Ground.{Ground, Offers}
@@ -102,7 +102,7 @@ module _ {C O : Type 0} (tells : Bool) (state : C → CellState) (offers : O →
     pub other : f.is_other ≡ e.is_other
     pub onward : e.place ≤ f.place
     pub reads : ReadsAs tells state offers s q t f
-    pub keeps : KnowsAll (view p) (view q)
+    pub keeps : GrowsTo (view p) (view q)
     pub seen : HasSeen e p → HasSeen f q
 
   pub gives_on : (e : Standing) (p : Pass C) (calls : List (Given C)) (f : Standing) (q : Pass C) (bytes : List ℕ) → ReadsAs tells state offers s p t e → Gives tells state offers s t e p calls f q bytes → ReadOn e p f q

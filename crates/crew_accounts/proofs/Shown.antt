@@ -14,7 +14,7 @@ use Rattle.line_account.specs.Accounts.{Shows, epochs_of}
 use Rattle.line_account.specs.Deeds.{PrintsBegunVersion, TellsBegun}
 use Rattle.lock_word.specs.Words.{stage_of, version_of}
 use Rattle.script_text.specs.Requests.{url_in}
-use Rattle.core_model.specs.Knowing.{KnowsAll}
+use Rattle.store_serve.specs.Growing.{GrowsTo}
 use Rattle.store_rule.specs.Calls.{IsFresh}
 
 -- What was seen is not above what is seen later.
@@ -45,21 +45,21 @@ pub record IsInTurn {X : Type 0} (a epoch : ℕ) (v w : View X) : Type 0 where
 
 module _ {X : Type 0} where
   -- it was fresh for a pass that knew less
-  pub fresh_from : {a e : ℕ} {u v w : View X} → KnowsAll u v → IsFresh a e v w → IsFresh a e u w
+  pub fresh_from : {a e : ℕ} {u v w : View X} → GrowsTo u v → IsFresh a e v w → IsFresh a e u w
   fresh_from {a} {e} {u} {v} {w} keeps h = record { above = let m = seen_below a u.seen v.seen keeps.seen in let k = h.above in omega arith; seen = h.seen }
 
-  pub fresh_to : {a e : ℕ} {u v w : View X} → IsFresh a e u v → KnowsAll v w → IsFresh a e u w
+  pub fresh_to : {a e : ℕ} {u v w : View X} → IsFresh a e u v → GrowsTo v w → IsFresh a e u w
   fresh_to h keeps = record { above = h.above; seen = keeps.seen _ h.seen }
 
   -- and in turn
-  pub turn_from : {a e : ℕ} {u v w : View X} → KnowsAll u v → IsInTurn a e v w → IsInTurn a e u w
+  pub turn_from : {a e : ℕ} {u v w : View X} → GrowsTo u v → IsInTurn a e v w → IsInTurn a e u w
   turn_from {a} {e} {u} {v} {w} keeps h = record {
     above = let m = seen_below a u.seen v.seen keeps.seen in let k = h.above in omega arith;
     leads = λ d c same. h.leads d (keeps.seen (Stood a d) c) same;
     seen = h.seen;
   }
 
-  pub turn_to : {a e : ℕ} {u v w : View X} → IsInTurn a e u v → KnowsAll v w → IsInTurn a e u w
+  pub turn_to : {a e : ℕ} {u v w : View X} → IsInTurn a e u v → GrowsTo v w → IsInTurn a e u w
   turn_to h keeps = record { above = h.above; leads = h.leads; seen = keeps.seen _ h.seen }
 
   -- an epoch of a later version than was seen there is in turn

@@ -7,12 +7,15 @@ use Rattle.store_rule.specs.Ground.{Offers}
 use Rattle.rock_reader.specs.Reading.{Gave, IsPiece, ReadsAs, Standing}
 use Rattle.rock_reader.specs.declared.answer.More.{More}
 use Rattle.rock_reader.specs.declared.answer.More.TheVariants as more
-use Rattle.rock_reader.proofs.Stopped.{stays_at_end, stays_turned}
+use Rattle.rock_reader.proofs.Stopped.{stays_at_end, stays_halted, stays_turned}
 use Rattle.store_serve.specs.Following.{Given, Gives, WentOn}
 use Rattle.crew_accounts.specs.Tracks.{HasEnded}
 
 end_no_piece : (count : ℕ) → more.Piece count ≡ more.End → ⊥
 end_no_piece count e = cc
+
+halted_no_piece : (count : ℕ) → more.Piece count ≡ more.Halted → ⊥
+halted_no_piece count e = cc
 
 other_no_piece : (count : ℕ) → more.Piece count ≡ more.OtherUrl → ⊥
 other_no_piece count e = cc
@@ -42,3 +45,6 @@ module _ {C O : Type 0} (tells : Bool) (state : C → CellState) (offers : O →
 
   pub went_turned : ReadsAs tells state offers s p t e → e.is_other ≡ true → (q : Pass C) (bytes : List ℕ) (why : More) → WentOn tells state offers s t e p q bytes why → (why ≡ more.OtherUrl) × (bytes ≡ [])
   went_turned reads other q bytes why h = went_so more.OtherUrl (λ before after w answer gave. stays_turned tells state offers s t p e reads before after w other answer gave) other_no_piece q bytes why h
+
+  pub went_halted : ReadsAs tells state offers s p t e → e.is_halted ≡ true → (q : Pass C) (bytes : List ℕ) (why : More) → WentOn tells state offers s t e p q bytes why → (why ≡ more.Halted) × (bytes ≡ [])
+  went_halted reads halted q bytes why h = went_so more.Halted (λ before after w answer gave. (stays_halted tells state offers s t p e reads before after w halted answer gave).0) halted_no_piece q bytes why h

@@ -23,7 +23,7 @@ module _ {X : Type 0} (r : Run X) (v : View X) (earlier : List Served) (s : Serv
   pub record Stays : Type 0 where
     pub behind_end : (t : ℕ) → ReadsBehind is_end earlier s t → s.answer ≡ answer.End []
     pub behind_other : (t : ℕ) → ReadsBehind is_other_url earlier s t → s.answer ≡ answer.OtherUrl
-    pub no_part : (t : ℕ) (e : Epoch) (bytes : List ℕ) → ReadsBehind is_halted earlier s t → s.answer ≡ answer.Part e bytes → ⊥
+    pub behind_halted : (t : ℕ) → ReadsBehind is_halted earlier s t → s.answer ≡ answer.Halted []
 
   -- a refusal by this cause
   pub record ForCause (c : Cause) : Type 0 where
@@ -78,7 +78,7 @@ module _ {X : Type 0} (r : Run X) (v : View X) (earlier : List Served) (s : Serv
   no_more none = record {
     behind_end = λ t h. absurd (none t h.request);
     behind_other = λ t h. absurd (none t h.request);
-    no_part = λ t e bytes h is. none t h.request;
+    behind_halted = λ t h. absurd (none t h.request);
   }
 
   -- what the account asks of a line by its request too
@@ -124,7 +124,7 @@ module _ {X : Type 0} (r : Run X) (v : View X) (earlier : List Served) (s : Serv
     tab = q.tab;
     behind_end = q.stays.behind_end;
     behind_other = q.stays.behind_other;
-    no_part = q.stays.no_part;
+    behind_halted = q.stays.behind_halted;
   }
     where
       ends : (x : ℕ) → (s.answer ≡ answer.Stored x) ⊎ (s.answer ≡ answer.Doomed x) → HasFinished r.setting v earlier s x × IsSmall r earlier s

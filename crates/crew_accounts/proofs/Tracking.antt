@@ -8,8 +8,7 @@ use Rattle.core_model.specs.Tabs.{OfReader, inner, tab_at}
 use Rattle.core_model.specs.declared.view.Sight.{Sight}
 use Rattle.core_model.specs.declared.view.View.{View}
 use Rattle.line_account.specs.Answers.{IsEntryAt, Run}
-use Rattle.core_model.specs.Knowing.{KnowsAll}
-use Rattle.line_account.specs.Accounts.{HasHalted}
+use Rattle.store_serve.specs.Growing.{GrowsTo}
 use Rattle.line_account.specs.Lines.{Served}
 use Rattle.line_account.specs.Stopping.{is_end, is_halted, is_other_url}
 use Rattle.rock_reader.specs.Reading.{Standing}
@@ -31,7 +30,7 @@ use Rattle.crew_accounts.proofs.TabLines.{LeavesAlone, added_on, answered_on, gi
 pub shown_on : {X : Type 0} (g : Ground X) (e : Entry) (seen all : List Sight) → ((x : Sight) → Contains seen x → Contains all x) → HasShown g e seen → HasShown g e all
 shown_on g e seen all f h = λ some. let k = h some in (f _ k.0, names_on k.1 f)
 
-pub entry_on : {X : Type 0} (r : Run X) (v w : View X) (a e : ℕ) (url : List ℕ) → KnowsAll v w → (h : IsEntryAt r v a e url) → (k : IsEntryAt r w a e url) × (k.offer ≡ h.offer)
+pub entry_on : {X : Type 0} (r : Run X) (v w : View X) (a e : ℕ) (url : List ℕ) → GrowsTo v w → (h : IsEntryAt r v a e url) → (k : IsEntryAt r w a e url) × (k.offer ≡ h.offer)
 entry_on r v w a e url keeps h = (
   record {
     readable = h.readable;
@@ -52,10 +51,7 @@ pub entry_moved : {X : Type 0} (r : Run X) (v : View X) (a b e : ℕ) (url u : L
 entry_moved r v a b e url u same its h = subst (λ (z : List ℕ). (k : IsEntryAt r v b e z) × (k.offer ≡ h.offer)) its
     (subst (λ (c : ℕ). (k : IsEntryAt r v c e url) × (k.offer ≡ h.offer)) same (h, refl))
 
--- what comes to the end of its entry, or to one that was halted, is so still
-pub halted_on : {X : Type 0} (v w : View X) (a x : ℕ) → KnowsAll v w → HasHalted v a x → HasHalted w a x
-halted_on v w a x keeps h = record { epoch = h.epoch; version_is = h.version_is; halted = h.halted; seen = keeps.seen _ h.seen }
-
+-- what comes to the end of its entry is so still
 pub ended_on : {C : Type 0} (j : ℕ) (e : Standing) (p q : Pass C) → tab_at (view q) j ≡ tab_at (view p) j → HasEnded p j e → HasEnded q j e
 ended_on j e p q same h = record { was = h.was; some = h.some; none = subst (OfReader (λ r. r.slot ≡ None)) (sym same) h.none }
 
@@ -138,7 +134,7 @@ module _ {C O : Type 0} (tells : Bool) (state : C → CellState) (offers : O →
         shown = λ some. leaves.keeps.seen _ (h.shown some);
         ended = λ e. ended_on j h.standing p q (leaves.others j ne far) (h.ended e);
         turned = h.turned;
-        halted = λ e. halted_on (view p) (view q) h.standing.anchor h.standing.version leaves.keeps (h.halted e);
+        halted = h.halted;
       }))
 
   far : (j : ℕ) → j < whole_tab → j ≢ inner

@@ -23,7 +23,7 @@ use Rattle.crew_accounts.proofs.TabLines.{IsMute, mute, tab_is_mute}
 use Rattle.crew_accounts.proofs.Tracking.{tracks_still}
 
 pub still : {X : Type 0} (v w : View X) → w ≡ v → IsStill v w
-still {X} v w same = record { keeps = grown.same same; drawn = λ x. ap (λ (u : View X). drawn x u.trail) same; draws = ap (λ (u : View X). draws u.trail) same; deeds = ap View.deeds same }
+still {X} v w same = record { keeps = grown.knows_all (grown.same same); drawn = λ x. ap (λ (u : View X). drawn x u.trail) same; draws = ap (λ (u : View X). draws u.trail) same; deeds = ap View.deeds same }
 
 module _ {C O : Type 0} (tells : Bool) (state : C → CellState) (offers : O → Offers) (s : Store C O) (told : Bool) (past : Past) (served : List Served) (line : Line) (p : Pass C) (a : Answer) (q : Pass C) where
   pub away_adds : IsTurnedAway p a q → ¬ Fits served line.request

@@ -8,7 +8,6 @@ use Rattle.entry_cut.specs.Content.{room_of}
 use Rattle.core_model.specs.Anchors.{opening_counter}
 use Rattle.core_model.specs.declared.view.Sight.TheVariants.{Published}
 use Rattle.core_model.specs.Tabs.{OfReader, tab_at}
-use Rattle.line_account.specs.Accounts.{HasHalted}
 use Rattle.line_account.specs.Answers.{IsEntryAt, Run}
 use Rattle.line_account.specs.Stopping.{answered_more, is_end, is_halted, is_other_url}
 use Rattle.script_text.specs.Requests.{url_in}
@@ -70,8 +69,8 @@ module _ {C O : Type 0} (tells : Bool) (state : C → CellState) (offers : O →
 
     -- By the lines it reads, and it does: the URL and the epoch are those of the line that opened it, and the bytes that lines gave are
     -- those of the slots that it was given. Where it turned from its entry these are none, and the offer has another URL. The pass has seen
-    -- how many slots it was given. Behind END it has no slot at its place, behind OTHERURL it has turned, and behind HALTED the pass has
-    -- seen the version at HALTED.
+    -- how many slots it was given. Behind END it has no slot at its place, behind OTHERURL it has turned, and behind HALTED it
+    -- was found that its writer gave up.
     pub record IsReader : Type 0 where
       pub writes : writing t served ≡ None
       pub first : Served
@@ -92,7 +91,7 @@ module _ {C O : Type 0} (tells : Bool) (state : C → CellState) (offers : O →
       pub shown : 0 < standing.place → Contains (view p).seen (Published standing.anchor standing.version standing.place)
       pub ended : answered_more is_end t served ≡ true → HasEnded p t standing
       pub turned : answered_more is_other_url t served ≡ true → standing.is_other ≡ true
-      pub halted : answered_more is_halted t served ≡ true → HasHalted (view p) standing.anchor standing.version
+      pub halted : answered_more is_halted t served ≡ true → standing.is_halted ≡ true
 
     abbrev pub IsTracked : Type 0
     IsTracked = IsIdle ⊎ IsWriter ⊎ IsReader

@@ -183,7 +183,7 @@ module _ {X : Type 0} (r : Run X) (v w : View X) (h : KnowsAll v w) where
     tab = t.tab;
     behind_end = t.behind_end;
     behind_other = t.behind_other;
-    no_part = t.no_part;
+    behind_halted = t.behind_halted;
   }
 
 module _ {X : Type 0} (r : Run X) where

@@ -218,7 +218,7 @@ module _ {X : Type 0} (r : Run X) (url : List ℕ) (o : OffersNothing r url) whe
     tab = ((λ h. absurd (let z : answer.Stored x ≡ answer.Tab = h in cc)), (λ n. absurd (n tt)));
     behind_end = λ t h. absurd (put_no_more t h.request);
     behind_other = λ t h. absurd (put_no_more t h.request);
-    no_part = λ t e bytes h is. put_no_more t h.request;
+    behind_halted = λ t h. absurd (put_no_more t h.request);
   }
 
   abbrev entry : IsEntryAt r v a (epoch_at x 3) url
@@ -294,7 +294,7 @@ module _ {X : Type 0} (r : Run X) (url : List ℕ) (o : OffersNothing r url) whe
     tab = ((λ h. absurd (let z : answer.Hit x [] ≡ answer.Tab = h in cc)), (λ n. absurd (n tt)));
     behind_end = λ t h. absurd (get_no_more t h.request);
     behind_other = λ t h. absurd (get_no_more t h.request);
-    no_part = λ t e bytes h is. get_no_more t h.request;
+    behind_halted = λ t h. absurd (get_no_more t h.request);
   }
 
   pub has_account : Account r v both true

@@ -227,7 +227,7 @@ module _ {X : Type 0} (r : Run X) where
     tab = tab;
     behind_end = λ t h. absurd (none_behind is_end earlier s t q may tab h);
     behind_other = λ t h. absurd (none_behind is_other_url earlier s t q may tab h);
-    no_part = λ t e bytes h is. none_behind is_halted earlier s t q may tab h;
+    behind_halted = λ t h. absurd (none_behind is_halted earlier s t q may tab h);
   }
 
   silent_adds : (v w : View X) (earlier : List Served) (s : Served) → IsSilent s.answer → s.drew ≡ None → Tells r w earlier s → IsIdle v w → Adds r v earlier s w

@@ -1,6 +1,6 @@
 -- Lines in an order that no run explains.
 use Rattle.std.proofs.Common.{Bool, Contains, List, [], ap, arith, cond, false, refl, subst, sym, true, ◌∙◌, ◌∷◌, ◌≡◌, ◌≤◌, ◌||◌, ℕ}
-use Rattle.std.specs.Prelude.{IsTrue, None, Some, ◌≢◌}
+use Rattle.std.specs.Prelude.{None, Some, ◌≢◌}
 use Rattle.lock_word.specs.Words.{doom_number, doom_of, epoch_at, epoch_number, version_of}
 use Rattle.lock_word.proofs.Parts.{doom_of-epoch_number, stage_of-epoch_number, version_of-epoch_number}
 use Rattle.lock_word.specs.declared.cause.Cause.TheVariants.{Absent, Leaving}
@@ -22,7 +22,6 @@ use Rattle.line_account.specs.Lines.{Served, closes, opened_by, opened_of, opens
 use Rattle.line_account.specs.Order.{FindsOrStores, NotBelow, Opens, counts_as, epochs_told, printed}
 use Rattle.line_account.specs.Printed.{ReadsVersion}
 use Rattle.line_account.specs.Stopping.{ReadsBehind, answered_more, answers_more, is_end, is_halted, is_other_url}
-use Rattle.line_account.specs.Tabs.{IsStillHalted, PartBehindHalted}
 use Rattle.line_account.specs.Rules.{KeepsRules}
 
 module _ {X : Type 0} (r : Run X) (script : List Line) (u v w : Worker X) (rules : KeepsRules r script (u ∷ v ∷ w ∷ [])) (p a b c d g : Served) (us : u.served ≡ a ∷ p ∷ []) (vs : v.served ≡ c ∷ b ∷ []) (ws : w.served ≡ g ∷ d ∷ [])
@@ -97,9 +96,6 @@ module _ {X : Type 0} (r : Run X) (script : List Line) (w : Worker X) (rules : K
     pub behind : LineIn (alone w) (λ earlier s. ReadsBehind so earlier s 0)
     behind = record { j = 0; worker = w; at = refl; later = []; served = m; earlier = e ∷ o ∷ []; split = is; so = behind_so }
 
-    pub part_behind : (epoch : Epoch) (more : List ℕ) → so ≡ is_halted → m.answer ≡ answer.Part epoch more → LineIn (alone w) (λ earlier s. PartBehindHalted earlier s 0)
-    part_behind epoch more same ma = record { j = 0; worker = w; at = refl; later = []; served = m; earlier = e ∷ o ∷ []; split = is; so = record { behind = subst (λ (f : Answer → Bool). ReadsBehind f (e ∷ o ∷ []) m 0) same behind_so; epoch = epoch; bytes = more; printed = ma } }
-
   -- it comes to nothing else
   module _ (o e m : Served) (url : List ℕ) (x : ℕ) (is : w.served ≡ m ∷ e ∷ o ∷ []) (oq : o.asked.request ≡ OpenTab 0 url) (oa : o.answer ≡ answer.Opened x)
       (eq : e.asked.request ≡ More 0) (mq : m.asked.request ≡ More 0) where
@@ -111,9 +107,6 @@ module _ {X : Type 0} (r : Run X) (script : List Line) (w : Worker X) (rules : K
     unfolding behind
     still_other ea = rules.tabs.behind_other 0 (behind is_other_url o e m url x is oq oa eq (ap is_other_url ea) mq)
 
-    pub no_part : (bytes more : List ℕ) (epoch : Epoch) → e.answer ≡ answer.Halted bytes → m.answer ≡ answer.Part epoch more → ⊥
-    no_part bytes more epoch ea ma = rules.tabs.no_part 0 (part_behind is_halted o e m url x is oq oa eq (ap is_halted ea) mq epoch more refl ma)
-
-    pub still_halted : IsTrue r.tells → (bytes : List ℕ) → e.answer ≡ answer.Halted bytes → IsStillHalted m.answer
+    pub still_halted : (bytes : List ℕ) → e.answer ≡ answer.Halted bytes → m.answer ≡ answer.Halted []
     unfolding behind
-    still_halted y bytes ea = rules.tabs.behind_halted y 0 (behind is_halted o e m url x is oq oa eq (ap is_halted ea) mq)
+    still_halted bytes ea = rules.tabs.behind_halted 0 (behind is_halted o e m url x is oq oa eq (ap is_halted ea) mq)

@@ -121,10 +121,10 @@ pub record Tells {X : Type 0} (r : Run X) (v : View X) (earlier : List Served) (
   pub added : (count : ℕ) → s.answer ≡ answer.Added count → HasAdded r v earlier s count
   pub given : IsTrue r.tells → Reads s.answer → HasGiven r v earlier s
   pub tab : (s.answer ≡ answer.Tab) ↔ ¬ Fits earlier s.asked.request  -- exactly where its tab is not as it needs it
-  -- a tab that came to its end, or turned from its entry, stays there, and one whose entry was halted grows no more
+  -- a tab that came to its end, turned from its entry, or found that its writer gave up, stays there
   pub behind_end : (tab : ℕ) → ReadsBehind is_end earlier s tab → s.answer ≡ answer.End []
   pub behind_other : (tab : ℕ) → ReadsBehind is_other_url earlier s tab → s.answer ≡ answer.OtherUrl
-  pub no_part : (tab : ℕ) (e : Epoch) (bytes : List ℕ) → ReadsBehind is_halted earlier s tab → s.answer ≡ answer.Part e bytes → ⊥
+  pub behind_halted : (tab : ℕ) → ReadsBehind is_halted earlier s tab → s.answer ≡ answer.Halted []
 
 -- whether a line drew the version x, and whether it drew one
 abbrev pub drew_version : ℕ → Served → Bool

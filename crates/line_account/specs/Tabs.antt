@@ -30,19 +30,6 @@ pub record ReadsHalted (anchors : ℕ) (earlier : List Served) (s : Served) (a x
   pub bytes : List ℕ
   pub printed : s.answer ≡ answer.Halted bytes
 
--- a line that prints PART, on a tab that reads, behind one on it that printed HALTED
-pub record PartBehindHalted (earlier : List Served) (s : Served) (tab : ℕ) : Type 0 where
-  pub behind : ReadsBehind is_halted earlier s tab
-  pub epoch : Epoch
-  pub bytes : List ℕ
-  pub printed : s.answer ≡ answer.Part epoch bytes
-
--- the answers that may come behind HALTED
-abbrev pub IsStillHalted : Answer → Type 0
-IsStillHalted (answer.Halted bytes) = Unit {0}
-IsStillHalted (answer.ReadFault bytes) = Unit {0}
-IsStillHalted _ = ⊥
-
 -- a line that reads what was opened with the version x at the anchor a under this URL, and found its first slot
 pub record ReadsUnder (anchors : ℕ) (earlier : List Served) (s : Served) (a x : ℕ) (url : List ℕ) : Type 0 where
   pub of : ReadsVersion anchors earlier s a x
@@ -84,14 +71,13 @@ module _ {X : Type 0} (r : Run X) (crew : List (Worker X)) where
     -- of a later version those of the line that began the version
     pub new : IsTrue r.tells → (a x : ℕ) → (p : LineIn crew (λ earlier s. ReadsOn r.setting.anchors earlier s a x))
         → opening_counter r.setting < x → IsFrontOfLine r crew a x p.served.answer (bytes_with p.earlier p.served)
-    -- Behind END a tab that reads prints END and no byte, and behind OTHERURL it prints OTHERURL.
+    -- Behind END a tab that reads prints END and no byte, behind OTHERURL it prints OTHERURL, and behind HALTED it prints HALTED and no
+    -- byte.
     pub behind_end : (tab : ℕ) → (p : LineIn crew (λ earlier s. ReadsBehind is_end earlier s tab)) → p.served.answer ≡ answer.End []
     pub behind_other : (tab : ℕ) → (p : LineIn crew (λ earlier s. ReadsBehind is_other_url earlier s tab))
         → p.served.answer ≡ answer.OtherUrl
-    -- Behind HALTED it prints no PART; and where bytes are told, nothing but HALTED, and FAULT.
-    pub no_part : (tab : ℕ) → LineIn crew (λ earlier s. PartBehindHalted earlier s tab) → ⊥
-    pub behind_halted : IsTrue r.tells → (tab : ℕ) → (p : LineIn crew (λ earlier s. ReadsBehind is_halted earlier s tab))
-        → IsStillHalted p.served.answer
+    pub behind_halted : (tab : ℕ) → (p : LineIn crew (λ earlier s. ReadsBehind is_halted earlier s tab))
+        → p.served.answer ≡ answer.Halted []
     -- Of one version under one URL, either OTHERURL is printed, or HIT, PART, END and HALTED.
     pub one_url : IsTrue r.tells → (a x : ℕ) (url : List ℕ) → LineIn crew (λ earlier s. ReadsUnder r.setting.anchors earlier s a x url)
         → LineIn crew (λ earlier s. ReadsOther r.setting.anchors earlier s a x url) → ⊥

@@ -1,7 +1,6 @@
 //! Examples: lines in an order that no run explains, for the rules refuse them. Each says by which rule.
-ghost use Rattle.std.specs.Prelude.{◌≡◌, ◌≢◌, ◌∷◌, IsTrue, ℕ, List, [], false, true};
+ghost use Rattle.std.specs.Prelude.{◌≡◌, ◌≢◌, ◌∷◌, ℕ, List, [], false, true};
 ghost use Rattle.lock_word.specs.declared.cause.Cause.{Cause};
-ghost use Rattle.lock_word.specs.declared.epoch.Epoch.{Epoch};
 ghost use Rattle.lock_word.specs.declared.stage.Stage.TheVariants as stage;
 ghost use Rattle.script_text.specs.declared.answer.Answer.{Answer};
 ghost use Rattle.script_text.specs.declared.body.Body.{Body};
@@ -62,19 +61,11 @@ pub fn nothing_comes_behind_another_url<X>()
         → m.asked.request ≡ Request.More 0 → m.answer ≢ Answer.OtherUrl → ⊥ }
 {}
 
-/// `open` printed OPEN, `more` on its tab HALTED, and the next one PART (`tabs.no_part`), END or OTHERURL (`tabs.behind_halted`): an entry
-/// that was given up grows no more.
+/// `open` printed OPEN, `more` on its tab HALTED, and the next one anything but HALTED with no byte (`tabs.behind_halted`): an entry that
+/// was given up grows no more, and nothing of it is read again.
 pub fn nothing_grows_behind_a_halt<X>()
-    ensures part { (r : Run X) (script : List Line) (w : Worker X) (o e m : Served) (url bytes more : List ℕ) (x : ℕ) (epoch : Epoch)
+    ensures { (r : Run X) (script : List Line) (w : Worker X) (o e m : Served) (url bytes : List ℕ) (x : ℕ)
         → KeepsRules r script (alone w) → w.served ≡ [] then o then e then m → o.asked.request ≡ Request.OpenTab 0 url
         → o.answer ≡ Answer.Opened x → e.asked.request ≡ Request.More 0 → e.answer ≡ Answer.Halted bytes
-        → m.asked.request ≡ Request.More 0 → m.answer ≡ Answer.Part epoch more → ⊥ }
-    ensures end { (r : Run X) (script : List Line) (w : Worker X) (o e m : Served) (url bytes more : List ℕ) (x : ℕ)
-        → KeepsRules r script (alone w) → IsTrue r.tells → w.served ≡ [] then o then e then m → o.asked.request ≡ Request.OpenTab 0 url
-        → o.answer ≡ Answer.Opened x → e.asked.request ≡ Request.More 0 → e.answer ≡ Answer.Halted bytes
-        → m.asked.request ≡ Request.More 0 → m.answer ≡ Answer.End more → ⊥ }
-    ensures other { (r : Run X) (script : List Line) (w : Worker X) (o e m : Served) (url bytes : List ℕ) (x : ℕ)
-        → KeepsRules r script (alone w) → IsTrue r.tells → w.served ≡ [] then o then e then m → o.asked.request ≡ Request.OpenTab 0 url
-        → o.answer ≡ Answer.Opened x → e.asked.request ≡ Request.More 0 → e.answer ≡ Answer.Halted bytes
-        → m.asked.request ≡ Request.More 0 → m.answer ≡ Answer.OtherUrl → ⊥ }
+        → m.asked.request ≡ Request.More 0 → m.answer ≢ Answer.Halted [] → ⊥ }
 {}

@@ -16,7 +16,7 @@ ghost use Rattle.core_model.specs.State.{State};
 ghost use Rattle.core_model.specs.Anchors.{opening_counter, opening_epoch};
 ghost use Rattle.line_account.specs.Lines.{Fits, Offers, Served, added, offers};
 ghost use Rattle.line_account.specs.Stopping.{ReadsBehind, is_end, is_halted, is_other_url};
-ghost use Rattle.line_account.specs.Tabs.{IsFrontOfLine, IsFrontOfOld, IsStillHalted, PartBehindHalted, ReadsHalted, ReadsOn};
+ghost use Rattle.line_account.specs.Tabs.{IsFrontOfLine, IsFrontOfOld, ReadsHalted, ReadsOn};
 ghost use Rattle.line_account.specs.Tabs.{ReadsOther, ReadsPart, ReadsUnder};
 ghost use Rattle.line_account.specs.Deeds.{Begins, PrintsBegun, PrintsBegunVersion};
 ghost use Rattle.line_account.specs.Requests.{IsAnswerTo};
@@ -351,8 +351,8 @@ pub fn ends_tell_the_version_begun<X>()
 
 /// A tab that reads stays at the entry of which its OPEN told the version: PART is of that version, HALTED comes only where its
 /// writing was halted, and all bytes since OPEN are the first ones of its body, the whole of it at END. Behind END the tab
-/// prints END and no byte, behind OTHERURL OTHERURL, and behind HALTED no PART: where bytes are told nothing but HALTED and
-/// FAULT. Of one version under one URL either OTHERURL is printed, or HIT, PART, END and HALTED.
+/// prints END and no byte, behind OTHERURL OTHERURL, and behind HALTED HALTED and no byte. Of one version under one URL either
+/// OTHERURL is printed, or HIT, PART, END and HALTED.
 pub fn tabs_stay_at_their_entries<X>()
     ensures part { (r : Run X) (crew : List (Worker X)) (a x : ℕ) (epoch : Epoch) → Closed r crew
         → LineIn crew (λ earlier s. ReadsPart r.setting.anchors earlier s a x epoch) → version_of (epoch_number epoch) ≡ x }
@@ -368,10 +368,8 @@ pub fn tabs_stay_at_their_entries<X>()
         → (p : LineIn crew (λ earlier s. ReadsBehind is_end earlier s tab)) → p.served.answer ≡ Answer.End [] }
     ensures behind_other { (r : Run X) (crew : List (Worker X)) (tab : ℕ) → Closed r crew
         → (p : LineIn crew (λ earlier s. ReadsBehind is_other_url earlier s tab)) → p.served.answer ≡ Answer.OtherUrl }
-    ensures no_part { (r : Run X) (crew : List (Worker X)) (tab : ℕ) → Closed r crew
-        → LineIn crew (λ earlier s. PartBehindHalted earlier s tab) → ⊥ }
-    ensures behind_halted { (r : Run X) (crew : List (Worker X)) (tab : ℕ) → Closed r crew → IsTrue r.tells
-        → (p : LineIn crew (λ earlier s. ReadsBehind is_halted earlier s tab)) → IsStillHalted p.served.answer }
+    ensures behind_halted { (r : Run X) (crew : List (Worker X)) (tab : ℕ) → Closed r crew
+        → (p : LineIn crew (λ earlier s. ReadsBehind is_halted earlier s tab)) → p.served.answer ≡ Answer.Halted [] }
     ensures one_url { (r : Run X) (crew : List (Worker X)) (a x : ℕ) (url : List ℕ) → Closed r crew → IsTrue r.tells
         → LineIn crew (λ earlier s. ReadsUnder r.setting.anchors earlier s a x url)
         → LineIn crew (λ earlier s. ReadsOther r.setting.anchors earlier s a x url) → ⊥ }

@@ -67,7 +67,7 @@ module _ {C O : Type 0} (tells : Bool) (state : C → CellState) (offers : O →
       keeps = record {
         pass = ap View.pass more.view_is;
         seen = λ x h. subst (λ (v : View (List ℕ)). Contains v.seen x) (sym more.view_is) (Contains-append_right more.sights (view p).seen x h);
-        trail = λ x h. subst (λ (v : View (List ℕ)). Contains v.trail x) (sym more.view_is) (Contains-append_right (more.item ∷ []) (view p).trail x h);
+        trail = (more.item ∷ [], ap View.trail more.view_is);
         met = λ a h. subst (λ (v : View (List ℕ)). Contains v.met a) (sym more.view_is) h;
       };
       places = more.keeps.places;

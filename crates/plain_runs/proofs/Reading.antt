@@ -51,7 +51,7 @@ use Rattle.store_rule.proofs.Moves.{known_of}
 use Rattle.store_rule.proofs.Passing.{pass_of}
 use Rattle.store_rule.specs.Words.{has}
 use Rattle.store_rule.proofs.MyWords.{found_mine}
-use Rattle.rock_reader.specs.Reading.{Gave, LookedAt, ReadsAs, Standing, StaysOther, TurnsOut, Waits, turned}
+use Rattle.rock_reader.specs.Reading.{Gave, LookedAt, ReadsAs, Standing, StaysOther, TurnsOut, Waits, halting, turned}
 use Rattle.rock_reader.specs.Responses.{HoldsFile, IsResponse, body_at, body_below, pieces_of}
 use Rattle.rock_reader.specs.declared.answer.More.{More}
 use Rattle.rock_reader.specs.declared.answer.More.TheVariants as more_answer
@@ -383,7 +383,7 @@ module _ {C O : Type 0} (tells : Bool) (state : C → CellState) (offers : O →
             ∙ ap (λ (n : ℕ). body_below g n e.offer f.place) sh.anchor_is ∙ ap (λ (n : ℕ). body_below g a n f.place) sh.offer_is
 
         -- where it was given all that is published
-        module _ (all : f.place ≡ slots_published room x.life x.content) (was : f.is_other ≡ false) (reads : ReadsAs tells state offers s q t f) where
+        module _ (all : f.place ≡ slots_published room x.life x.content) (was : f.is_other ≡ false) (z : Standing) (same : IsSameEntry f z) (place_is : z.place ≡ f.place) (turns_is : z.is_other ≡ f.is_other) (reads : ReadsAs tells state offers s q t z) where
           whole_there : body_below g a x.offer f.place ≡ all_there
           whole_there = ap (body_below g a x.offer) all ∙ published_bytes g a x of from sized
 
@@ -393,7 +393,8 @@ module _ {C O : Type 0} (tells : Bool) (state : C → CellState) (offers : O →
 
           read_tab : ShowsTab tells state offers s rename q after t (tab_at after t)
           read_tab = subst (ShowsTab tells state offers s rename q after t) (sym after_tab)
-              (shows_read after (length all_there) false f sh.there refl reads itself (sym is) (λ z. absurd (not_turned z)) (λ z. absurd (let y : true ≡ false = sym z in cc)) (λ z. ap length (sym whole_there)))
+              (shows_read after (length all_there) false z sh.there refl reads same (sym is) (λ y. absurd (not_turned (sym turns_is ∙ y))) (λ y. absurd (let w : true ≡ false = sym y in cc))
+              (λ y. ap length (sym whole_there ∙ ap (body_below g a x.offer) (sym place_is))))
 
           after_knows : KnowsLot g rename lot (view q) after no_guests
           after_knows = read_knows g rename (view q) pl t a given false eight lt (length all_there) false at_read kq
@@ -443,16 +444,16 @@ module _ {C O : Type 0} (tells : Bool) (state : C → CellState) (offers : O →
             by_end (more_answer.NotYet epoch) e h none =
                 let there = epoch_there epoch h.waits in
                 let life = grows_at room x.content x.life (sym stage_there ∙ sym (ap Epoch.stage there) ∙ h.grows) in
-                read_right (all_given epoch h.waits) h.waits.was h.waits.stays (more_answer.NotYet epoch)
+                read_right (all_given epoch h.waits) h.waits.was f itself refl refl h.stays (more_answer.NotYet epoch)
                 (λ z is_so. is_so ∙ ap (λ (y : Epoch). answer.Part y bytes) there ∙ told_as Growing life)
             by_end more_answer.End e h none =
                 let life = whole_at_end h.all in
                 read_right (h.all ∙ ap (λ (n : ℕ). pieces_of g n f.offer) f_anchor ∙ ap (pieces_of g a) f_offer ∙ of.whole life ∙ ap (λ (y : Life). slots_published room y x.content) (sym life))
-                h.was (subst (λ (z : Pass C). ReadsAs tells state offers s z t f) (sym h.still) so.reads) more_answer.End (λ z is_so. is_so ∙ told_as Whole life)
+                h.was f itself refl refl (subst (λ (z : Pass C). ReadsAs tells state offers s z t f) (sym h.still) so.reads) more_answer.End (λ z is_so. is_so ∙ told_as Whole life)
             by_end more_answer.Halted e h none =
                 let there = epoch_there h.epoch h.waits in
                 let life = halts_at room x.content x.life (sym stage_there ∙ sym (ap Epoch.stage there) ∙ h.halted) in
-                read_right (all_given h.epoch h.waits) h.waits.was h.waits.stays more_answer.Halted (λ z is_so. is_so ∙ told_as GivenUp life)
+                read_right (all_given h.epoch h.waits) h.waits.was (halting f) record { anchor = refl; version = refl; offer = refl; url = refl } refl refl h.stays more_answer.Halted (λ z is_so. is_so ∙ told_as GivenUp life)
             by_end more_answer.OtherUrl e h none = absurd (of_other h)
               where
                 of_other : StaysOther tells state offers s t m f went.before went.after q ⊎ TurnsOut tells state offers s t m f went.before went.after q → ⊥

@@ -1,5 +1,5 @@
 -- What a reading tab is that does not look again: it was given all, or its entry turned out to be another one.
-use Rattle.std.proofs.Common.{Bool, List, None, ap, arith, false, refl, subst, sym, true, ◌+◌, ◌<◌, ◌≡◌, ◌≢◌, ◌≤◌, ◌⊎◌, inl, inr, ⊎_elim, ℕ}
+use Rattle.std.proofs.Common.{Bool, List, None, ap, arith, false, refl, subst, sym, true, ◌+◌, ◌<◌, ◌≡◌, ◌≢◌, ◌≤◌, ◌⊎◌, ◌∙◌, inl, inr, ⊎_elim, ℕ}
 use Rattle.rock_disk.specs.Cell.{CellState}
 use Rattle.core_model.specs.Tabs.{InnerIsFree, OfReader, has_turn, tab_at}
 use Rattle.core_model.specs.declared.tab.Turn.TheVariants.{NoTurn}
@@ -13,6 +13,8 @@ use Rattle.rock_reader.specs.Reading.{IsAtEnd, MayRead, ReadsAs, Standing, Stays
 use Rattle.rock_reader.specs.Wanted.{held_at}
 use Rattle.rock_reader.proofs.Looking.{of_reader}
 use Rattle.rock_reader.proofs.ReadingOn.{reader_of_tab}
+use Rattle.rock_reader.proofs.StillHalted.{none_some}
+use Rattle.rock_reader.proofs.Stopped.{both}
 
 is_true : (b : Bool) → (b ≡ false → ⊥) → b ≡ true
 is_true true h = refl
@@ -28,6 +30,7 @@ module _ {C O : Type 0} (tells : Bool) (state : C → CellState) (offers : O →
     ended h = let r = reader_of_tab (λ r. (0 < r.place) × (r.slot ≡ None) × (0 < held_at p.desks t)) (tab_at (view p) t) reads.reader reads.is h in
         let some_place : 0 < e.place = subst (λ (n : ℕ). 0 < n) reads.place_is r.0 in record {
           was = not_other e.is_other (λ o. let z = (reads.other o).1 in let y = r.2 in absurd (omega arith));
+          going = not_other e.is_halted (λ f. let z = (reads.stopped f).1 in none_some z.slot (sym r.1 ∙ z.knows));
           some = some_place;
           all = reads.at_end r.1 some_place;
           ended = subst (OfReader (λ r. r.slot ≡ None)) (sym reads.is) r.1;
@@ -36,11 +39,13 @@ module _ {C O : Type 0} (tells : Bool) (state : C → CellState) (offers : O →
         }
 
     pub turned_out : OfReader (λ r. (0 < r.place) × (held_at p.desks t ≡ 0)) (tab_at (view p) t) → StaysOther tells state offers s t p e bytes bytes p
-    turned_out h = let r = reader_of_tab (λ r. (0 < r.place) × (held_at p.desks t ≡ 0)) (tab_at (view p) t) reads.reader reads.is h in record {
-      was = is_true e.is_other (λ f. let y = (reads.given f (subst (λ (n : ℕ). 0 < n) reads.place_is r.0)).0 in let z = r.1 in absurd (omega arith));
-      still = refl;
-      same = refl;
-    }
+    turned_out h = let r = reader_of_tab (λ r. (0 < r.place) × (held_at p.desks t ≡ 0)) (tab_at (view p) t) reads.reader reads.is h in
+        let turned : e.is_other ≡ true = is_true e.is_other (λ f. let y = (reads.given f (subst (λ (n : ℕ). 0 < n) reads.place_is r.0)).0 in let z = r.1 in absurd (omega arith)) in record {
+          was = turned;
+          going = not_other e.is_halted (λ f. both e.is_other turned (reads.stopped f).0);
+          still = refl;
+          same = refl;
+        }
 
   -- a tab that has a slot at its place may look
   pub may_locate : (room : ℕ) → MayRead tells state offers s p t room → OfReader (λ r. (r.place ≡ 0) ⊎ ((r.slot ≢ None) × (0 < held_at p.desks t))) (tab_at (view p) t) → MayLocate tells state offers s p t

@@ -7,6 +7,7 @@ pub mod Looking
 pub mod LookedTab
 pub mod Unwritten
 pub mod Decoded
+pub mod StillHalted
 pub mod ReaderFollows
 pub mod ReadingOn
 pub mod Pieces

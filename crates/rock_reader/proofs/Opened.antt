@@ -98,5 +98,6 @@ module _ {C O : Type 0} (tells : Bool) (state : C → CellState) (offers : O →
           held = λ f. let w = keeps.within in omega arith;
           given = λ f some. absurd (omega arith);
           other = λ f. absurd (false≢true f);
+          stopped = λ f. absurd (false≢true f);
         },
       )

@@ -26,13 +26,14 @@ use Rattle.store_rule.specs.declared.store.Store.{Store}
 use Rattle.tab_states.specs.Desks.{buffer_at, draft_at}
 use Rattle.store_rule.specs.Ground.{Ground, Offers}
 use Rattle.store_rule.specs.Passes.{IsOf, basis, view}
+use Rattle.core_halts.specs.Halts.{FoundEnd}
 use Rattle.store_rule.specs.Turns.{Lost, new_hold}
 use Rattle.store_rule.proofs.Drafting.{drafted_own}
 use Rattle.store_rule.proofs.Passing.{pass_of}
 use Rattle.store_rule.specs.Calls.{Follows, IsFresh}
 use Rattle.slice_chain.specs.Reads.{FollowsReading, HoldsPiece, MayReadSlot, ReadSlot, went_on}
 use Rattle.rock_reader.specs.Bodies.{HasUrl, IsOfEntry, body_of}
-use Rattle.rock_reader.specs.Reading.{Delivered, Fails, Gave, GaveBody, GaveNone, HasResponse, HasTried, IsPiece, LookedAt, MayRead, ReadsAs, Standing, TurnsOut, Waits, onward, turned}
+use Rattle.rock_reader.specs.Reading.{Delivered, Fails, Gave, GaveBody, GaveNone, HasResponse, HasTried, IsPiece, LookedAt, MayRead, ReadsAs, Standing, TurnsOut, Waits, halting, onward, turned}
 use Rattle.rock_reader.specs.Responses.{HoldsFile, IsResponse, pieces_of}
 use Rattle.rock_reader.specs.Wanted.{held_at, kept_at, kept_of}
 use Rattle.rock_reader.specs.declared.answer.More.{More}
@@ -44,6 +45,7 @@ use Rattle.rock_reader.proofs.Looking.{linked_sees}
 use Rattle.rock_reader.proofs.Metadata.{one_url}
 use Rattle.rock_reader.proofs.Pieces.{piece_inside, piece_last}
 use Rattle.rock_reader.proofs.ReaderFollows.{drafted_view}
+use Rattle.rock_reader.proofs.StillHalted.{ends_now, halted_still, no_link_still}
 use Rattle.rock_reader.proofs.Unwritten as unwritten
 
 module _ {X : Type 0} where
@@ -149,9 +151,22 @@ module _ {C O : Type 0} (tells : Bool) (state : C → CellState) (offers : O →
     not_turned : (0 < e.place → 0 < held_at p.desks t) → e.is_other ≡ false
     not_turned known = is_false e.is_other (λ o. let h = reads.other o in let k = known h.0 in absurd (omega (arith, k, h.1)))
 
+    -- where the pass had found that the entry goes no further, it finds so again
+    stuck : e.is_halted ≡ true → (link ≡ NotWritten) × (epoch.stage ≡ Stage.Halted)
+    stuck f = let h = (reads.stopped f).1 in let had = subst (λ (z : ℕ × ℕ). FoundEnd (view p) z.0 z.1 h.slot) (λ i. (sym reads.anchor_is i, sym reads.version_is i)) h.found in (
+      no_link_still g t (view p) (view q) epoch link (pass_of p) le reads.reader reads.is found h.slot h.knows had,
+      halted_still g t (view p) (view q) epoch link (pass_of p) le reads.reader reads.is found h.slot h.knows had,
+    )
+
+    goes_written : link ≢ NotWritten → e.is_halted ≡ false
+    goes_written written = is_false e.is_halted (λ f. written (stuck f).0)
+
+    goes_growing : epoch.stage ≡ Stage.Appending → e.is_halted ≡ false
+    goes_growing grows = is_false e.is_halted (λ f. halted_appending (sym (stuck f).1 ∙ grows))
+
     -- a tab that looked reads as before
-    pub stays : ReadsAs tells state offers s q t e
-    stays = record {
+    pub stays : e.is_halted ≡ false → ReadsAs tells state offers s q t e
+    stays going = record {
       own = follows.own;
       below = reads.below;
       reader = reader1;
@@ -167,6 +182,7 @@ module _ {C O : Type 0} (tells : Bool) (state : C → CellState) (offers : O →
       held = λ f. subst (λ (n : ℕ). n ≤ g.slot) (sym held1) (reads.held f);
       given = λ f some. let h = reads.given f some in (subst (λ (n : ℕ). 0 < n) (sym held1) h.0, h.1);
       other = λ f. let h = reads.other f in (h.0, held1 ∙ h.1);
+      stopped = λ f. absurd (false≢true (sym going ∙ f));
     }
 
     -- Where the link is not written.
@@ -183,18 +199,49 @@ module _ {C O : Type 0} (tells : Bool) (state : C → CellState) (offers : O →
         version_is = unwritten.version_is g t (view p) (view q) epoch (pass_of p) le reads.reader reads.is found0 ∙ reads.version_is;
         published = λ n c. subst (λ (z : ℕ). n ≤ z) reads.place_is (unwritten.none_more g t (view p) (view q) epoch (pass_of p) le reads.reader reads.is found0 n
             (subst (λ (z : Sight). Contains (view q).seen z) (λ i. Published (sym reads.anchor_is i) (sym reads.version_is i) n) c));
-        stays = stays;
         same = same;
+      }
+
+      -- its writer gave up
+      stops : (0 < e.place → 0 < held_at p.desks t) → epoch.stage ≡ Stage.Halted → ReadsAs tells state offers s q t (halting e)
+      stops known halted = record {
+        own = follows.own;
+        below = reads.below;
+        reader = reader1;
+        is = tab1;
+        idle = reads.idle;
+        anchor_is = reads.anchor_is;
+        version_is = reads.version_is;
+        place_is = reads.place_is;
+        offer_seen = seen1 _ reads.offer_seen;
+        inside = reads.inside;
+        at_end = λ none some. absurd (some_none found.linked.slot none);
+        wanted = λ f. kept1 ∙ reads.wanted f;
+        held = λ f. subst (λ (n : ℕ). n ≤ g.slot) (sym held1) (reads.held f);
+        given = λ f some. let h = reads.given f some in (subst (λ (n : ℕ). 0 < n) (sym held1) h.0, h.1);
+        other = λ f. let h = reads.other f in (h.0, held1 ∙ h.1);
+        stopped = λ f. (
+          not_turned known,
+          record {
+            slot = found.linked.slot;
+            knows = refl;
+            found = subst (λ (z : ℕ × ℕ). FoundEnd (view q) z.0 z.1 found.linked.slot) (λ i. (reads.anchor_is i, reads.version_is i))
+                (ends_now g t (view p) (view q) epoch link (pass_of p) le reads.reader reads.is found none halted
+                (unwritten.version_is g t (view p) (view q) epoch (pass_of p) le reads.reader reads.is found0));
+          },
+        );
       }
 
       pub gave_none : (0 < e.place → 0 < held_at p.desks t) → (before after : List ℕ) → after ≡ before → (r : More) → (epoch.stage ≡ Stage.Appending → r ≡ More.NotYet epoch) → (epoch.stage ≢ Stage.Appending → r ≡ More.Halted) → Gave tells state offers s t p e before after q r
       gave_none known before after same r grows halted = ⊎_elim
           (λ (h : epoch.stage ≡ Stage.Appending). subst (Gave tells state offers s t p e before after q) (sym (grows h)) record {
+            going = goes_growing h;
             waits = waits known before after same;
             grows = h;
             stages = λ f c v. unwritten.none_later g t (view p) (view q) epoch (pass_of p) le reads.reader reads.is found0 h f (subst (λ (z : ℕ). Contains (view q).seen (Stood z f)) (sym reads.anchor_is) c) (v ∙ sym reads.version_is);
+            stays = stays (goes_growing h);
           })
-          (λ (h : epoch.stage ≡ Stage.Halted). subst (Gave tells state offers s t p e before after q) (sym (halted (λ a. halted_appending (sym h ∙ a)))) record { epoch = epoch; waits = waits known before after same; halted = h })
+          (λ (h : epoch.stage ≡ Stage.Halted). subst (Gave tells state offers s t p e before after q) (sym (halted (λ a. halted_appending (sym h ∙ a)))) record { epoch = epoch; waits = waits known before after same; halted = h; stays = stops known h })
           (unwritten.grows_or_halted g t (view p) (view q) epoch (pass_of p) le reads.reader reads.is found0)
 
     -- Where it is written, and the slot was read, or not.
@@ -232,6 +279,7 @@ module _ {C O : Type 0} (tells : Bool) (state : C → CellState) (offers : O →
       pub fails : (0 < e.place → 0 < held_at p.desks t) → (before after : List ℕ) → after ≡ before → Fails tells state offers s t p e before after u
       fails known before after same = record {
         was = not_turned known;
+        going = goes_written written;
         tried = record { epoch = epoch; link = link; middle = view q; found = found; written = written; cell = cell; read = read };
         stays = record {
           own = reading.own;
@@ -249,6 +297,7 @@ module _ {C O : Type 0} (tells : Bool) (state : C → CellState) (offers : O →
           held = λ f. subst (λ (n : ℕ). n ≤ g.slot) (sym (held2 written u false cell read reading)) (reads.held f);
           given = λ f some. let h = reads.given f some in (subst (λ (n : ℕ). 0 < n) (sym (held2 written u false cell read reading)) h.0, h.1);
           other = λ f. let h = reads.other f in (h.0, held2 written u false cell read reading ∙ h.1);
+          stopped = λ f. absurd (false≢true (sym (goes_written written) ∙ f));
         };
         same = same;
       }
@@ -281,8 +330,8 @@ module _ {C O : Type 0} (tells : Bool) (state : C → CellState) (offers : O →
         module _ (w : Pass C) (own : IsOf tells state offers s w) (same_view : view w ≡ view u) where
           moved : (e' : Standing) → e'.anchor ≡ e.anchor → e'.version ≡ e.version → e'.offer ≡ e.offer → e'.place ≡ e.place + 1
               → (e'.is_other ≡ false → kept_at w.desks t ≡ kept_of g.slot e'.url) → (e'.is_other ≡ false → held_at w.desks t ≤ g.slot)
-              → (e'.is_other ≡ false → 0 < e'.place → (0 < held_at w.desks t) × HasResponse tells state offers s e') → (e'.is_other ≡ true → (0 < e'.place) × (held_at w.desks t ≡ 0)) → ReadsAs tells state offers s w t e'
-          moved e' a v o pl wanted held given other = record {
+              → (e'.is_other ≡ false → 0 < e'.place → (0 < held_at w.desks t) × HasResponse tells state offers s e') → (e'.is_other ≡ true → (0 < e'.place) × (held_at w.desks t ≡ 0)) → e'.is_halted ≡ false → ReadsAs tells state offers s w t e'
+          moved e' a v o pl wanted held given other going = record {
             own = own;
             below = reads.below;
             reader = went_on reader1;
@@ -299,6 +348,7 @@ module _ {C O : Type 0} (tells : Bool) (state : C → CellState) (offers : O →
             held = held;
             given = given;
             other = other;
+            stopped = λ f. absurd (false≢true (sym going ∙ f));
           }
 
         abbrev image : List ℕ
@@ -326,6 +376,7 @@ module _ {C O : Type 0} (tells : Bool) (state : C → CellState) (offers : O →
               (λ f. subst (λ (n : ℕ). n ≤ g.slot) (sym (held2 written u true cell read reading)) (reads.held f))
               (λ f some. (subst (λ (n : ℕ). 0 < n) (sym (held2 written u true cell read reading)) given_held, has_response f))
               (λ f. ((omega arith), held2 written u true cell read reading ∙ (reads.other f).1))
+              (goes_written written)
 
         tried : (w : Pass C) → view w ≡ view u → (before after : List ℕ) → HasTried tells state offers s t p e before after w true
         tried w same_view before after = record {
@@ -346,6 +397,7 @@ module _ {C O : Type 0} (tells : Bool) (state : C → CellState) (offers : O →
           piece_at : IsPiece tells state offers s t p e before after u count
           piece_at = record {
             was = not_turned known;
+            going = goes_written written;
             tried = tried u refl before after;
             found = is_of;
             given = d.bytes ∙ ap (body_of image) at;
@@ -384,11 +436,12 @@ module _ {C O : Type 0} (tells : Bool) (state : C → CellState) (offers : O →
           turns_out : TurnsOut tells state offers s t p e before after w
           turns_out = record {
             was = not_turned known;
+            going = goes_written written;
             tried = tried w (drafted_view t _ u w d.forgot) before after;
             other = λ h. not_of (subst (λ (x : List ℕ). IsOfEntry x g.setting.slots e.place (kept_at p.desks t)) same_image h);
             url = λ told file. (at_first told file, other_url told file);
             reads = moved w (drafted_own tells state offers s t _ u w reading.own d.forgot) (drafted_view t _ u w d.forgot) (turned e) refl refl refl refl
-                (λ f. absurd (false≢true (sym f))) (λ f. absurd (false≢true (sym f))) (λ f. absurd (false≢true (sym f))) (λ f. ((omega arith), forgot_held));
+                (λ f. absurd (false≢true (sym f))) (λ f. absurd (false≢true (sym f))) (λ f. absurd (false≢true (sym f))) (λ f. ((omega arith), forgot_held)) (goes_written written);
             same = d.same;
           }
 

@@ -1,4 +1,4 @@
--- A tab that reads stays where it came to its end, and where it turned from its entry.
+-- A tab that reads stays where it came to its end, where it turned from its entry, and where its writer gave up.
 use Rattle.std.proofs.Common.{Bool, List, None, Option, Some, ap, arith, cond, ne_eqb, false, get_or, get_or-set_same, refl, subst, sym, true, ◌+◌, ◌-◌, ◌<◌, ◌==◌, ◌∙◌, ◌≡◌, ◌⊎◌, inl, inr, ℕ}
 use Rattle.lock_word.specs.declared.epoch.Epoch.{Epoch}
 use Rattle.link_word.specs.declared.link.Link.{Link}
@@ -20,11 +20,9 @@ use Rattle.rock_reader.specs.Reading.{Gave, LookedAt, ReadsAs, Standing}
 use Rattle.rock_reader.specs.declared.answer.More.{More}
 use Rattle.rock_reader.specs.declared.answer.More.TheVariants as more
 use Rattle.rock_reader.proofs.LookedTab.{start_slot}
+use Rattle.rock_reader.proofs.StillHalted.{none_some}
 
-none_some : (slot : ℕ) → None ≡ Some slot → ⊥
-none_some slot e = cc
-
-both : (b : Bool) → b ≡ true → b ≡ false → ⊥
+pub both : (b : Bool) → b ≡ true → b ≡ false → ⊥
 both b e f = let z : true ≡ false = sym e ∙ f in cc
 
 module _ {X : Type 0} (g : Ground X) (t : ℕ) (v : View X) (r : Reader X) (is : tab_at v t ≡ Reading r) (none : r.slot ≡ None) (some : 0 < r.place) where
@@ -76,3 +74,13 @@ module _ {C O : Type 0} (tells : Bool) (state : C → CellState) (offers : O →
   stays_turned other more.Halted h = absurd (both e.is_other other h.waits.was)
   stays_turned other more.OtherUrl h = refl
   stays_turned other more.Fault h = absurd (both e.is_other other h.was)
+
+  -- and where its writer gave up it is answered so again, and is given nothing
+  pub stays_halted : e.is_halted ≡ true → (answer : More) → Gave tells state offers s t p e before after q answer → (answer ≡ more.Halted) × (after ≡ before)
+  stays_halted halted (more.Piece count) h = absurd (both e.is_halted halted h.going)
+  stays_halted halted (more.NotYet epoch) h = absurd (both e.is_halted halted h.going)
+  stays_halted halted more.End h = absurd (both e.is_halted halted h.going)
+  stays_halted halted more.Halted h = (refl, h.waits.same)
+  stays_halted halted more.OtherUrl (inl h) = absurd (both e.is_halted halted h.going)
+  stays_halted halted more.OtherUrl (inr h) = absurd (both e.is_halted halted h.going)
+  stays_halted halted more.Fault h = absurd (both e.is_halted halted h.going)

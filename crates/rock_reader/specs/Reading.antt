@@ -1,5 +1,5 @@
 -- What a tab that reads is to its caller, and what reading on comes to.
-use Rattle.std.specs.Prelude.{Bool, Contains, IsTrue, List, None, drop, false, length, take, true, ◌+◌, ◌<◌, ◌≡◌, ◌≢◌, ◌≤◌, ◌⊎◌, ℕ}
+use Rattle.std.specs.Prelude.{Bool, Contains, IsTrue, List, None, Some, drop, false, length, take, true, ◌+◌, ◌<◌, ◌≡◌, ◌≢◌, ◌≤◌, ◌⊎◌, ℕ}
 use Rattle.lock_word.specs.Words.{epoch_number, epoch_of, stage_of, version_of}
 use Rattle.lock_word.specs.declared.epoch.Epoch.{Epoch}
 use Rattle.lock_word.specs.declared.stage.Stage.{Stage}
@@ -16,6 +16,7 @@ use Rattle.core_model.specs.declared.tab.Tab.TheVariants.{Reading}
 use Rattle.core_model.specs.declared.tab.Turn.TheVariants.{NoTurn}
 use Rattle.core_model.specs.declared.view.Sight.TheVariants.{Named, Published, Stood}
 use Rattle.core_model.specs.declared.view.View.{View}
+use Rattle.core_halts.specs.Halts.{FoundEnd}
 use Rattle.store_rule.specs.declared.store.Pass.{Pass}
 use Rattle.store_rule.specs.declared.store.Store.{Store}
 use Rattle.store_rule.specs.Ground.{Ground, Offers}
@@ -32,8 +33,8 @@ use Rattle.rock_reader.specs.Wanted.{held_at, kept_at, kept_of}
 use Rattle.rock_reader.specs.declared.answer.More.{More}
 use Rattle.rock_reader.specs.declared.answer.More.TheVariants.{End, Fault, Halted, NotYet, OtherUrl, Piece}
 
--- Where a tab is that reads: its anchor, the version and the offer of its entry, how many slots it was given, the URL that it wants, and
--- whether a slot was found that is not of an entry of that URL.
+-- Where a tab is that reads: its anchor, the version and the offer of its entry, how many slots it was given, the URL that it wants,
+-- whether a slot was found that is not of an entry of that URL, and whether a call answered that its writer gave up.
 pub record Standing : Type 0 where
   pub anchor : ℕ
   pub version : ℕ
@@ -41,10 +42,19 @@ pub record Standing : Type 0 where
   pub place : ℕ
   pub url : List ℕ
   pub is_other : Bool
+  pub is_halted : Bool
 
 -- that of a tab that was just opened
 abbrev pub newly : (anchor version offer : ℕ) (url : List ℕ) → Standing
-newly anchor version offer url = record { anchor = anchor; version = version; offer = offer; place = 0; url = url; is_other = false }
+newly anchor version offer url = record {
+  anchor = anchor;
+  version = version;
+  offer = offer;
+  place = 0;
+  url = url;
+  is_other = false;
+  is_halted = false;
+}
 
 -- one place on
 abbrev pub onward : Standing → Standing
@@ -52,6 +62,16 @@ onward e = record e { place = e.place + 1 }
 
 abbrev pub turned : Standing → Standing
 turned e = record e { place = e.place + 1; is_other = true }
+
+-- its writer gave up
+abbrev pub halting : Standing → Standing
+halting e = record e { is_halted = true }
+
+-- The pass found that the writer of the entry gave up, and that the entry goes no further than the slot at the reader's place.
+pub record HasStopped {X : Type 0} (e : Standing) (r : Reader X) (v : View X) : Type 0 where
+  pub slot : ℕ
+  pub knows : r.slot ≡ Some slot
+  pub found : FoundEnd v e.anchor e.version slot
 
 module _ {C O : Type 0} (tells : Bool) (state : C → CellState) (offers : O → Offers) where
   -- Where cells tell and the opening's entries were complete, the offer has a response under the wanted URL.
@@ -75,6 +95,7 @@ module _ {C O : Type 0} (tells : Bool) (state : C → CellState) (offers : O →
     pub held : e.is_other ≡ false → held_at p.desks t ≤ (basis tells state offers s).slot
     pub given : e.is_other ≡ false → 0 < e.place → (0 < held_at p.desks t) × HasResponse s e
     pub other : e.is_other ≡ true → (0 < e.place) × (held_at p.desks t ≡ 0)
+    pub stopped : e.is_halted ≡ true → (e.is_other ≡ false) × HasStopped e reader (view p)
 
   -- The tab reads without a turn, and there is room for what a slot may add to a body.
   pub record MayRead (s : Store C O) (p : Pass C) (t room : ℕ) : Type 0 where
@@ -124,20 +145,22 @@ module _ {C O : Type 0} (tells : Bool) (state : C → CellState) (offers : O →
     pub fresh : IsFresh e.anchor (epoch_number epoch) (view p) (view q)
     pub version_is : epoch.version ≡ e.version
     pub published : (n : ℕ) → Contains (view q).seen (Published e.anchor e.version n) → n ≤ e.place
-    pub stays : ReadsAs tells state offers s q t e
     pub same : after ≡ before
 
   -- the entry grows, and the pass has seen no later stage of it
   pub record IsNotYet (epoch : Epoch) : Type 0 where
+    pub going : e.is_halted ≡ false
     pub waits : Waits epoch
     pub grows : epoch.stage ≡ Stage.Appending
     pub stages : (f : ℕ) → Contains (view q).seen (Stood e.anchor f) → version_of f ≡ e.version → stage_of f ≤ 2
+    pub stays : ReadsAs tells state offers s q t e
 
-  -- its writer gave up
+  -- Its writer gave up. Each later call looks anew, and comes to that again.
   pub record IsHalted : Type 0 where
     pub epoch : Epoch
     pub waits : Waits epoch
     pub halted : epoch.stage ≡ Stage.Halted
+    pub stays : ReadsAs tells state offers s q t (halting e)
 
   -- the link at its place was found written, and the slot read, or not
   pub record HasTried (done : Bool) : Type 0 where
@@ -153,6 +176,7 @@ module _ {C O : Type 0} (tells : Bool) (state : C → CellState) (offers : O →
   -- of the offer's response adds.
   pub record IsPiece (count : ℕ) : Type 0 where
     pub was : e.is_other ≡ false
+    pub going : e.is_halted ≡ false
     pub tried : HasTried true
     pub found : IsOfEntry (buffer_at q.desks inner) g.setting.slots e.place (kept_at p.desks t)
     pub given : take count after ≡ body_of (buffer_at q.desks inner) e.place  -- the part of the body in what the station read
@@ -164,6 +188,7 @@ module _ {C O : Type 0} (tells : Bool) (state : C → CellState) (offers : O →
   -- A slot was read that is not of such an entry. Where cells tell it was the first one, and the offer's response has another URL.
   pub record TurnsOut : Type 0 where
     pub was : e.is_other ≡ false
+    pub going : e.is_halted ≡ false
     pub tried : HasTried true
     pub other : IsOfEntry (buffer_at q.desks inner) g.setting.slots e.place (kept_at p.desks t) → ⊥
     pub url : IsTrue tells → HoldsFile g → (e.place ≡ 0) × ((url body : List ℕ) → IsResponse g e.anchor e.offer url body → url ≢ e.url)
@@ -173,6 +198,7 @@ module _ {C O : Type 0} (tells : Bool) (state : C → CellState) (offers : O →
   -- one was found before, and nothing is done
   pub record StaysOther : Type 0 where
     pub was : e.is_other ≡ true
+    pub going : e.is_halted ≡ false
     pub still : q ≡ p
     pub same : after ≡ before
 
@@ -180,6 +206,7 @@ module _ {C O : Type 0} (tells : Bool) (state : C → CellState) (offers : O →
   -- this too.
   pub record IsAtEnd : Type 0 where
     pub was : e.is_other ≡ false
+    pub going : e.is_halted ≡ false
     pub some : 0 < e.place
     pub all : e.place ≡ pieces_of g e.anchor e.offer
     pub ended : OfReader (λ r. r.slot ≡ None) (tab_at (view p) t)
@@ -189,6 +216,7 @@ module _ {C O : Type 0} (tells : Bool) (state : C → CellState) (offers : O →
   -- the slot could not be read
   pub record Fails : Type 0 where
     pub was : e.is_other ≡ false
+    pub going : e.is_halted ≡ false
     pub tried : HasTried false
     pub stays : ReadsAs tells state offers s q t e
     pub same : after ≡ before

@@ -50,7 +50,7 @@ struct Found {
 /// slot has the metadata too, whose URL is compared with the wanted one.
 ///
 /// It looks at the anchor first, and then at the link of the slot. It waits for the turn at one cell, and for
-/// nothing else.
+/// nothing else. Once it has answered that the writer gave up, each later call finds so again.
 pub fn more<R: Wait, C: Cell, O: Origin, St: Station<C = C>>(
     rt: &R,
     store: &Store<C, O>,

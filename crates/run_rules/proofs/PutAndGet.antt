@@ -36,7 +36,7 @@ use Rattle.line_account.specs.Requests.{IsAnswerTo}
 use Rattle.line_account.specs.Rules.{KeepsRules}
 use Rattle.line_account.specs.Scripts.{offering}
 use Rattle.line_account.specs.Stopping.{ReadsBehind, is_end, is_halted, is_other_url}
-use Rattle.line_account.specs.Tabs.{IsFrontOfLine, PartBehindHalted, ReadsHalted, ReadsOn, ReadsOther, ReadsPart, TabsStay}
+use Rattle.line_account.specs.Tabs.{IsFrontOfLine, ReadsHalted, ReadsOn, ReadsOther, ReadsPart, TabsStay}
 use Rattle.line_account.specs.Versions.{AreBegun}
 use Rattle.line_account.proofs.Ordering.{FoundAt, below}
 
@@ -368,8 +368,7 @@ module _ {X : Type 0} (r : Run X) (url : List ℕ) (m : MayBegin r url) (w : Wor
     one_url = λ tells b y u p q. never (λ earlier s. ReadsOther r.setting.anchors earlier s b y u) (λ h. let k : answer.Hit x [] ≡ answer.OtherUrl = h.printed in cc) (λ h. let k : answer.Stored x ≡ answer.OtherUrl = h.printed in cc) q;
     behind_end = λ tab p. absurd (never (λ earlier s. ReadsBehind is_end earlier s tab) (λ h. let k : Get url ≡ More tab = h.request in cc) (λ h. let k : Put url nothing ≡ More tab = h.request in cc) p);
     behind_other = λ tab p. absurd (never (λ earlier s. ReadsBehind is_other_url earlier s tab) (λ h. let k : Get url ≡ More tab = h.request in cc) (λ h. let k : Put url nothing ≡ More tab = h.request in cc) p);
-    no_part = λ tab p. never (λ earlier s. PartBehindHalted earlier s tab) (λ h. let k : Get url ≡ More tab = h.behind.request in cc) (λ h. let k : Put url nothing ≡ More tab = h.behind.request in cc) p;
-    behind_halted = λ tells tab p. absurd (never (λ earlier s. ReadsBehind is_halted earlier s tab) (λ h. let k : Get url ≡ More tab = h.request in cc) (λ h. let k : Put url nothing ≡ More tab = h.request in cc) p);
+    behind_halted = λ tab p. absurd (never (λ earlier s. ReadsBehind is_halted earlier s tab) (λ h. let k : Get url ≡ More tab = h.request in cc) (λ h. let k : Put url nothing ≡ More tab = h.request in cc) p);
   }
 
   pub keeps_rules : KeepsRules r (put_and_get_script r url) crew

@@ -63,9 +63,9 @@ module _ {C O : Type 0} (tells : Bool) (state : C → CellState) (offers : O →
   pub reads_after : (e : Standing) (p q : Pass C) (before after : List ℕ) (answer : More) → ReadsAs tells state offers s p t e → Gave tells state offers s t p e before after q answer → ((count : ℕ) → answer ≢ Piece count)
       → (f : Standing) × ReadsAs tells state offers s q t f
   reads_after e p q before after (Piece count) reads gave none = absurd (none count refl)
-  reads_after e p q before after (NotYet epoch) reads gave none = (e, gave.waits.stays)
+  reads_after e p q before after (NotYet epoch) reads gave none = (e, gave.stays)
   reads_after e p q before after End reads gave none = (e, subst (λ (z : Pass C). ReadsAs tells state offers s z t e) (sym gave.still) reads)
-  reads_after e p q before after Halted reads gave none = (e, gave.waits.stays)
+  reads_after e p q before after Halted reads gave none = (_, gave.stays)
   reads_after e p q before after OtherUrl reads (inl stays) none = (e, subst (λ (z : Pass C). ReadsAs tells state offers s z t e) (sym stays.still) reads)
   reads_after e p q before after OtherUrl reads (inr turns) none = (_, turns.reads)
   reads_after e p q before after Fault reads gave none = (e, gave.stays)

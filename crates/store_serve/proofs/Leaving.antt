@@ -7,7 +7,7 @@ use Rattle.core_model.specs.Tabs.{InnerIsFree, inner, is_free, tab_at, with_tab}
 use Rattle.core_model.specs.declared.tab.Tab.{Tab}
 use Rattle.core_model.specs.declared.tab.Tab.TheVariants.{Free}
 use Rattle.core_model.specs.declared.view.View.{View}
-use Rattle.core_model.specs.Knowing.{KnowsAll}
+use Rattle.store_serve.specs.Growing.{GrowsTo}
 use Rattle.tab_states.specs.declared.desks.Desk.{Desk}
 use Rattle.store_rule.specs.declared.store.Pass.{Pass}
 use Rattle.store_rule.specs.declared.store.Store.{Store}
@@ -17,6 +17,7 @@ use Rattle.slice_chain.specs.Freeing.{FollowsTab}
 use Rattle.rock_reader.specs.Wanted.{FollowsReader, SameDesk}
 use Rattle.rock_writer.specs.Passes.{FollowsWriting}
 use Rattle.store_serve.specs.Tabs.{IsReady, Leaves}
+use Rattle.store_serve.proofs.Grown as grown
 
 -- what a list has in a place, seen through a function
 abbrev seen_as : {A B : Type 0} → (A → B) → B → Option A → B
@@ -34,11 +35,11 @@ same_mapped f d xs ys i e = mapped f d ys i ∙ ap (seen_as f d) e ∙ sym (mapp
 same_desk : (old new : List Desk) (j : ℕ) → slice_get new j ≡ slice_get old j → SameDesk old new j
 same_desk old new j e = (same_mapped (λ (d : Desk). d.page.bytes.items) [] old new j e, same_mapped (λ (d : Desk). d.draft) _ old new j e)
 
-pub nothing_lost : {X : Type 0} (v : View X) → KnowsAll v v
-nothing_lost v = record { pass = refl; seen = λ x h. h; trail = λ x h. h; met = λ a h. h }
+pub nothing_lost : {X : Type 0} (v : View X) → GrowsTo v v
+nothing_lost v = grown.stays v
 
-pub both_kept : {X : Type 0} (u v w : View X) → KnowsAll u v → KnowsAll v w → KnowsAll u w
-both_kept u v w a b = record { pass = b.pass ∙ a.pass; seen = λ x h. b.seen x (a.seen x h); trail = λ x h. b.trail x (a.trail x h); met = λ y h. b.met y (a.met y h) }
+pub both_kept : {X : Type 0} (u v w : View X) → GrowsTo u v → GrowsTo v w → GrowsTo u w
+both_kept u v w a b = grown.on a b
 
 -- the inner tab is free still
 pub inner_stays : {X : Type 0} (v w : View X) → tab_at w inner ≡ tab_at v inner → InnerIsFree v → InnerIsFree w
@@ -58,7 +59,7 @@ pub inner_beside : {X : Type 0} (t : ℕ) (v w : View X) (tab : Tab X) → t < i
 inner_beside t v w tab below is free = inner_stays v w (other_tab t v w tab inner (not_inner t below) is) free
 
 module _ {C O : Type 0} (tells : Bool) (state : C → CellState) (offers : O → Offers) (s : Store C O) (t : ℕ) where
-  pub leaves_writing : (p q : Pass C) → FollowsWriting tells state offers s t p q → InnerIsFree (view q) → KnowsAll (view p) (view q) → Leaves tells state offers s t p q
+  pub leaves_writing : (p q : Pass C) → FollowsWriting tells state offers s t p q → InnerIsFree (view q) → GrowsTo (view p) (view q) → Leaves tells state offers s t p q
   leaves_writing p q f free keeps = record {
     own = f.own;
     inner_free = free;
@@ -69,7 +70,7 @@ module _ {C O : Type 0} (tells : Bool) (state : C → CellState) (offers : O →
     cells = f.cells;
   }
 
-  pub leaves_reading : (p q : Pass C) → FollowsReader tells state offers s t p q → InnerIsFree (view q) → KnowsAll (view p) (view q) → Leaves tells state offers s t p q
+  pub leaves_reading : (p q : Pass C) → FollowsReader tells state offers s t p q → InnerIsFree (view q) → GrowsTo (view p) (view q) → Leaves tells state offers s t p q
   leaves_reading p q f free keeps = record {
     own = f.own;
     inner_free = free;
@@ -80,7 +81,7 @@ module _ {C O : Type 0} (tells : Bool) (state : C → CellState) (offers : O →
     cells = f.cells;
   }
 
-  pub leaves_tab : (p q : Pass C) → FollowsTab tells state offers s t p q → InnerIsFree (view q) → KnowsAll (view p) (view q) → Leaves tells state offers s t p q
+  pub leaves_tab : (p q : Pass C) → FollowsTab tells state offers s t p q → InnerIsFree (view q) → GrowsTo (view p) (view q) → Leaves tells state offers s t p q
   leaves_tab p q f free keeps = record {
     own = f.own;
     inner_free = free;
@@ -114,7 +115,7 @@ module _ {C O : Type 0} (tells : Bool) (state : C → CellState) (offers : O →
   }
 
   -- a call on the inner tab alone leaves each tab of the script
-  pub leaves_inner : (p q : Pass C) → FollowsTab tells state offers s inner p q → InnerIsFree (view q) → KnowsAll (view p) (view q) → Leaves tells state offers s t p q
+  pub leaves_inner : (p q : Pass C) → FollowsTab tells state offers s inner p q → InnerIsFree (view q) → GrowsTo (view p) (view q) → Leaves tells state offers s t p q
   leaves_inner p q f free keeps = record {
     own = f.own;
     inner_free = free;

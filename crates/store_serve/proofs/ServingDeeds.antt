@@ -16,7 +16,7 @@ use Rattle.rock_writer.specs.Entries.{Entry}
 use Rattle.rock_writer.specs.Finishing.{version_of}
 use Rattle.rock_writer.specs.declared.fault.Ended.{Ended}
 use Rattle.rock_writer.specs.declared.fault.WriteFault.{WriteFault}
-use Rattle.core_model.specs.Knowing.{KnowsAll}
+use Rattle.store_serve.specs.Growing.{GrowsTo}
 use Rattle.store_serve.specs.Adding.{Added, Call, NotAdded, Took, taken_on}
 use Rattle.store_serve.specs.Following.{GaveSome, Given, Gives, WentOn}
 use Rattle.store_serve.specs.Getting.{GotAs, GotEntry, StoppedGetting}
@@ -45,7 +45,7 @@ module _ {C O : Type 0} (tells : Bool) (state : C → CellState) (offers : O →
       → Acted None (OfPublishing (basis tells state offers s) (name_of (basis tells state offers s) e) (view q).seen) v (view m)
   later e m q h f = wider (λ d x. publishing_on (basis tells state offers s) (name_of (basis tells state offers s) e) (view m).seen (view q).seen d f x) h
 
-  same_seen : {p q : Pass C} → q ≡ p → KnowsAll (view p) (view q)
+  same_seen : {p q : Pass C} → q ≡ p → GrowsTo (view p) (view q)
   same_seen e = grown.same (ap view e)
 
   took : (e : Entry) (p : Pass C) (calls : List (Call C)) (q : Pass C) (total : ℕ) → HasEntry t (name_of (basis tells state offers s) e) (view p) → Took tells state offers s t e p calls q total → TookSome e p q

@@ -40,7 +40,7 @@ searching_draws_none (x ∷ xs) h = other_draw (is_draw x.kind) (draws xs) (⊎_
 module _ {X : Type 0} {P : Deed → Type 0} where
   held : (v u : View X) (t : ℕ) (w : Writer X) (h : Hold X) → u ≡ with_hold v t w h → Acted None P v u
   held v u t w h e = subst (λ (z : View X). Acted None P v z) (sym e) (record {
-    keeps = record { pass = refl; seen = λ x c. c; trail = λ x c. c; met = λ a c. c };
+    keeps = record { pass = refl; seen = λ x c. c; trail = ([], refl); met = λ a c. c };
     drawn = λ x. omega arith;
     draws = omega arith;
     deeds = λ d c. inl c;

@@ -20,67 +20,67 @@ use Rattle.slice_chain.specs.Names.{KeyLoaded, Named}
 use Rattle.slice_chain.specs.Reads.{ReadSlot}
 use Rattle.slice_chain.specs.Victims.{Evicted, NoneIdle}
 use Rattle.slice_chain.specs.Writes.{WroteSlot}
-use Rattle.core_model.specs.Knowing.{KnowsAll}
+use Rattle.store_serve.specs.Growing.{GrowsTo}
 use Rattle.store_serve.proofs.Grown.{by_run, by_step, on, same}
 
 module _ {X : Type 0} where
-  held : (v u : View X) (t : ℕ) (w : Writer X) (h : Hold X) → u ≡ with_hold v t w h → KnowsAll v u
-  held v u t w h e = subst (λ (z : View X). KnowsAll v z) (sym e) (record { pass = refl; seen = λ x c. c; trail = λ x c. c; met = λ a c. c })
+  held : (v u : View X) (t : ℕ) (w : Writer X) (h : Hold X) → u ≡ with_hold v t w h → GrowsTo v u
+  held v u t w h e = subst (λ (z : View X). GrowsTo v z) (sym e) (record { pass = refl; seen = λ x c. c; trail = ([], refl); met = λ a c. c })
 
-  blanked : (v u : View X) (t : ℕ) (f : Freer X) (h : Hold X) → u ≡ with_wiper v t f h → KnowsAll v u
-  blanked v u t f h e = subst (λ (z : View X). KnowsAll v z) (sym e) (record { pass = refl; seen = λ x c. c; trail = λ x c. c; met = λ a c. c })
+  blanked : (v u : View X) (t : ℕ) (f : Freer X) (h : Hold X) → u ≡ with_wiper v t f h → GrowsTo v u
+  blanked v u t f h e = subst (λ (z : View X). GrowsTo v z) (sym e) (record { pass = refl; seen = λ x c. c; trail = ([], refl); met = λ a c. c })
 
-  pub returned : (k : Setting X) (tab : Tab X) (t slot : ℕ) (c : Cell X) (v u : View X) → IsReturned k tab t slot c v u → KnowsAll v u
+  pub returned : (k : Setting X) (tab : Tab X) (t slot : ℕ) (c : Cell X) (v u : View X) → IsReturned k tab t slot c v u → GrowsTo v u
   returned k (Writing w) t slot c v u h = held v u t w h.0 h.2
   returned k (Freeing f) t slot c v u e = blanked v u t f (new_hold slot c) e
   returned k tab t slot c v u e = same e
 
 module _ {X : Type 0} {g : Ground X} where
-  pub claimed : {t slot : ℕ} {v w : View X} → Claimed g t v slot w → KnowsAll v w
+  pub claimed : {t slot : ℕ} {v w : View X} → Claimed g t v slot w → GrowsTo v w
   claimed h = by_run h.passed.went
 
-  pub all_taken : {t : ℕ} {v w : View X} → FoundAllTaken g t v w → KnowsAll v w
+  pub all_taken : {t : ℕ} {v w : View X} → FoundAllTaken g t v w → GrowsTo v w
   all_taken h = by_run h.passed.went
 
-  pub freed : {v w : View X} → Freed g v w → KnowsAll v w
+  pub freed : {v w : View X} → Freed g v w → GrowsTo v w
   freed h = by_run h.went
 
-  pub evicted : {hand t slot after : ℕ} {v w : View X} → Evicted g hand v t slot w after → KnowsAll v w
+  pub evicted : {hand t slot after : ℕ} {v w : View X} → Evicted g hand v t slot w after → GrowsTo v w
   evicted h = by_run h.went
 
-  pub none_idle : {hand : ℕ} {v w : View X} → NoneIdle g hand v w → KnowsAll v w
+  pub none_idle : {hand : ℕ} {v w : View X} → NoneIdle g hand v w → GrowsTo v w
   none_idle h = by_run h.went
 
-  pub named : {t offer : ℕ} {key : List ℕ} {v w : View X} → Named g t v key offer w → KnowsAll v w
+  pub named : {t offer : ℕ} {key : List ℕ} {v w : View X} → Named g t v key offer w → GrowsTo v w
   named h = on (by_step h.front) (on (by_step h.back) (on (by_step h.stored) (by_step h.start)))
 
-  pub key_loaded : {t : ℕ} {key : List ℕ} {v w : View X} → KeyLoaded g t v key w → KnowsAll v w
+  pub key_loaded : {t : ℕ} {key : List ℕ} {v w : View X} → KeyLoaded g t v key w → GrowsTo v w
   key_loaded h = on (by_step h.front) (by_step h.back)
 
 module _ {X : Type 0} (g : Ground X) (t : ℕ) where
-  published_first : {slot : ℕ} {link : Link} {v w : View X} → PublishedFirst g t slot link v w → KnowsAll v w
+  published_first : {slot : ℕ} {link : Link} {v w : View X} → PublishedFirst g t slot link v w → GrowsTo v w
   published_first h = on (by_step h.linked) (by_step h.started)
 
-  published_more : {slot : ℕ} {link : Link} {v w : View X} → PublishedMore g t slot link v w → KnowsAll v w
+  published_more : {slot : ℕ} {link : Link} {v w : View X} → PublishedMore g t slot link v w → GrowsTo v w
   published_more h = by_step h.linked
 
-  pub published : (slot : ℕ) (next : Option ℕ) (v w : View X) → Published g t slot next v w → KnowsAll v w
+  pub published : (slot : ℕ) (next : Option ℕ) (v w : View X) → Published g t slot next v w → GrowsTo v w
   published slot next v w (inl h) = published_first h
   published slot next v w (inr h) = published_more h
 
-  located : (slot : ℕ) (v w : View X) → Located g t slot v w → KnowsAll v w
+  located : (slot : ℕ) (v w : View X) → Located g t slot v w → GrowsTo v w
   located slot v w (inl h) = same h.stays
   located slot v w (inr h) = by_step h.start
 
-  pub linked : {link : Link} {v w : View X} → Linked g t link v w → KnowsAll v w
+  pub linked : {link : Link} {v w : View X} → Linked g t link v w → GrowsTo v w
   linked {link} {v} {w} h = on (located h.slot v h.middle h.located) (by_step h.step)
 
-  lost : (slot : ℕ) (v : View X) (views : List (View X)) (w : View X) → Lost g t slot v views w → KnowsAll v w
+  lost : (slot : ℕ) (v : View X) (views : List (View X)) (w : View X) → Lost g t slot v views w → GrowsTo v w
   lost slot v [] w e = same e
   lost slot v (u ∷ us) w h = on (lost slot v us u h.3) (by_step h.1)
 
-  pub read_slot : {done : Bool} {cell : Cell X} {v w : View X} → ReadSlot g t v done cell w → KnowsAll v w
+  pub read_slot : {done : Bool} {cell : Cell X} {v w : View X} → ReadSlot g t v done cell w → GrowsTo v w
   read_slot {done} {cell} {v} {w} h = on (lost h.slot v h.views h.last h.lost) (on (by_step h.tried) (by_step h.ended))
 
-  pub wrote_slot : {durable done : Bool} {v w : View X} → WroteSlot g t v durable done w → KnowsAll v w
+  pub wrote_slot : {durable done : Bool} {v w : View X} → WroteSlot g t v durable done w → GrowsTo v w
   wrote_slot h = on (by_step h.logs) (on (by_step h.tried) (on (returned g.setting (tab_at h.middle t) t h.slot h.cell h.middle h.from h.returned) (by_step h.ended)))

@@ -11,10 +11,11 @@ use Rattle.store_rule.specs.Ground.{Offers}
 use Rattle.store_rule.specs.Passes.{IsOf, basis, view}
 use Rattle.rock_reader.specs.Reading.{ReadsAs, Standing}
 use Rattle.rock_reader.specs.Wanted.{SameDesk, held_at, kept_at}
-use Rattle.core_model.specs.Knowing.{KnowsAll}
+use Rattle.rock_reader.proofs.StillHalted.{stopped_on}
+use Rattle.store_serve.specs.Growing.{GrowsTo}
 
 module _ {C O : Type 0} (tells : Bool) (state : C → CellState) (offers : O → Offers) (s : Store C O) where
-  pub stays : (p q : Pass C) (t : ℕ) (e : Standing) → ReadsAs tells state offers s p t e → IsOf tells state offers s q → tab_at (view q) t ≡ tab_at (view p) t → SameDesk p.desks q.desks t → KnowsAll (view p) (view q) → ReadsAs tells state offers s q t e
+  pub stays : (p q : Pass C) (t : ℕ) (e : Standing) → ReadsAs tells state offers s p t e → IsOf tells state offers s q → tab_at (view q) t ≡ tab_at (view p) t → SameDesk p.desks q.desks t → GrowsTo (view p) (view q) → ReadsAs tells state offers s q t e
   stays p q t e h own tab desk keeps = record {
     own = own;
     below = h.below;
@@ -31,6 +32,7 @@ module _ {C O : Type 0} (tells : Bool) (state : C → CellState) (offers : O →
     held = λ is. subst (λ z. z ≤ (basis tells state offers s).slot) (sym held) (h.held is);
     given = λ is some. (subst (λ z. 0 < z) (sym held) (h.given is some).0, (h.given is some).1);
     other = λ is. ((h.other is).0, held ∙ (h.other is).1);
+    stopped = λ is. ((h.stopped is).0, stopped_on e h.reader (view p) (view q) keeps.trail.0 keeps.trail.1 (h.stopped is).1);
   }
     where
       held : held_at q.desks t ≡ held_at p.desks t

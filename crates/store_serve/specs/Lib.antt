@@ -8,6 +8,7 @@ pub mod Whole
 pub mod Writing
 pub mod Reading
 pub mod Serving
+pub mod Growing
 pub mod Acting
 pub mod Deeds
 pub mod Refusing

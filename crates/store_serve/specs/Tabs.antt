@@ -8,7 +8,7 @@ use Rattle.store_key.specs.Url.{IsUrl}
 use Rattle.plain_model.specs.Serving.{bytes_of}
 use Rattle.core_model.specs.Tabs.{InnerIsFree, inner, tab_at}
 use Rattle.core_model.specs.declared.tab.Tab.TheVariants as tab
-use Rattle.core_model.specs.Knowing.{KnowsAll}
+use Rattle.store_serve.specs.Growing.{GrowsTo}
 use Rattle.store_rule.specs.declared.store.Pass.{Pass}
 use Rattle.store_rule.specs.declared.store.Store.{Store}
 use Rattle.entry_cut.specs.Content.{LeavesRoom}
@@ -82,6 +82,6 @@ module _ {C O : Type 0} (tells : Bool) (state : C → CellState) (offers : O →
     pub inner_free : InnerIsFree (view q)
     pub others : Others t (view p) (view q)
     pub desks : (j : ℕ) → j ≢ t → j ≢ inner → SameDesk p.desks q.desks j
-    pub keeps : KnowsAll (view p) (view q)
+    pub keeps : GrowsTo (view p) (view q)
     pub places : hand q ≡ hand p
     pub cells : q.cells ≡ p.cells

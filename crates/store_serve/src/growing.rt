@@ -26,7 +26,7 @@ ghost use Rattle.rock_reader.specs.Reading.{Gave, ReadsAs, Standing};
 ghost use Rattle.rock_reader.specs.Wanted.{SameDesk};
 ghost use Rattle.rock_reader.specs.declared.answer.More.{More};
 ghost use Rattle.purge_entry.specs.Purging.{Purged};
-ghost use Rattle.core_model.specs.Knowing.{KnowsAll};
+ghost use Rattle.store_serve.specs.Growing.{GrowsTo};
 ghost use Rattle.store_serve.specs.Adding.{Added as BytesAdded, NotAdded};
 ghost use Rattle.store_serve.specs.Following.{GaveSome, WentOn};
 ghost use Rattle.store_serve.specs.Getting.{GotAs, StoppedGetting};
@@ -39,67 +39,67 @@ use store_rule::Origin;
 
 /// That what a pass knows grows adds up: of no step, of some behind others, of one step, and of a run of steps.
 pub fn growing_adds_up<X>()
-    ensures none { (v : View X) → KnowsAll v v }
-    ensures behind { (u v w : View X) → KnowsAll u v → KnowsAll v w → KnowsAll u w }
-    ensures step { (g : Ground X) (v w : View X) (m : Move) (n : ℕ) → Steps g v m n w → KnowsAll v w }
-    ensures run { (g : Ground X) (v w : View X) (added : Added) → Went g v added w → KnowsAll v w }
+    ensures none { (v : View X) → GrowsTo v v }
+    ensures behind { (u v w : View X) → GrowsTo u v → GrowsTo v w → GrowsTo u w }
+    ensures step { (g : Ground X) (v w : View X) (m : Move) (n : ℕ) → Steps g v m n w → GrowsTo v w }
+    ensures run { (g : Ground X) (v w : View X) (added : Added) → Went g v added w → GrowsTo v w }
 {}
 
 /// What a pass knows grows at each answer of a call of the writer: where an entry was begun or not, bytes were
 /// appended or not, and an entry was finished or not, or halted.
 pub fn writing_grows<C: Cell, O: Origin>()
     ensures began { (s : Store C O) (t offer version : ℕ) (url : List ℕ) (durable : Bool) (p q : Pass C)
-        → Began C.tells C.state O.offers s t offer url durable p q version → KnowsAll (view p) (view q) }
-    ensures not_taken { (g : Ground (List ℕ)) (t a : ℕ) (v w : View (List ℕ)) (fault : BeginFault) → NotTaken g t a v fault w → KnowsAll v w }
+        → Began C.tells C.state O.offers s t offer url durable p q version → GrowsTo (view p) (view q) }
+    ensures not_taken { (g : Ground (List ℕ)) (t a : ℕ) (v w : View (List ℕ)) (fault : BeginFault) → NotTaken g t a v fault w → GrowsTo v w }
     ensures appended { (s : Store C O) (t count : ℕ) (e : Entry) (bytes : List ℕ) (p q : Pass C)
-        → Appended C.tells C.state O.offers s t e bytes p q count → KnowsAll (view p) (view q) }
+        → Appended C.tells C.state O.offers s t e bytes p q count → GrowsTo (view p) (view q) }
     ensures not_appended { (s : Store C O) (t : ℕ) (e : Entry) (bytes : List ℕ) (fault : WriteFault) (p q : Pass C)
-        → NotAppended C.tells C.state O.offers s t e bytes p q fault → KnowsAll (view p) (view q) }
+        → NotAppended C.tells C.state O.offers s t e bytes p q fault → GrowsTo (view p) (view q) }
     ensures finished { (s : Store C O) (t : ℕ) (e : Entry) (ended : Ended) (p q : Pass C)
-        → Finished C.tells C.state O.offers s t e p q ended → KnowsAll (view p) (view q) }
+        → Finished C.tells C.state O.offers s t e p q ended → GrowsTo (view p) (view q) }
     ensures not_finished { (s : Store C O) (t : ℕ) (e : Entry) (fault : WriteFault) (p q : Pass C)
-        → NotFinished C.tells C.state O.offers s t e p q fault → KnowsAll (view p) (view q) }
-    ensures halts { (g : Ground (List ℕ)) (t : ℕ) (v w : View (List ℕ)) → Halts g t v w → KnowsAll v w }
+        → NotFinished C.tells C.state O.offers s t e p q fault → GrowsTo (view p) (view q) }
+    ensures halts { (g : Ground (List ℕ)) (t : ℕ) (v w : View (List ℕ)) → Halts g t v w → GrowsTo v w }
 {}
 
 /// At each answer of a call of the reader: where an entry was opened or not, a tab read on, and it left.
 pub fn reading_grows<C: Cell, O: Origin>()
-    ensures opened { (g : Ground (List ℕ)) (t version : ℕ) (url : List ℕ) (v w : View (List ℕ)) → OpenedEntry g t url v version w → KnowsAll v w }
-    ensures refused { (g : Ground (List ℕ)) (t : ℕ) (url : List ℕ) (cause : Cause) (v w : View (List ℕ)) → Refused g t url v cause w → KnowsAll v w }
+    ensures opened { (g : Ground (List ℕ)) (t version : ℕ) (url : List ℕ) (v w : View (List ℕ)) → OpenedEntry g t url v version w → GrowsTo v w }
+    ensures refused { (g : Ground (List ℕ)) (t : ℕ) (url : List ℕ) (cause : Cause) (v w : View (List ℕ)) → Refused g t url v cause w → GrowsTo v w }
     ensures gave { (s : Store C O) (t : ℕ) (e : Standing) (before after : List ℕ) (answer : More) (p q : Pass C)
-        → Gave C.tells C.state O.offers s t p e before after q answer → KnowsAll (view p) (view q) }
-    ensures parted { (g : Ground (List ℕ)) (t : ℕ) (v w : View (List ℕ)) → Parted g t v w → KnowsAll v w }
+        → Gave C.tells C.state O.offers s t p e before after q answer → GrowsTo (view p) (view q) }
+    ensures parted { (g : Ground (List ℕ)) (t : ℕ) (v w : View (List ℕ)) → Parted g t v w → GrowsTo v w }
 {}
 
 /// At each answer of a purge: where an entry was doomed, and where there was none.
 pub fn purging_grows<X>()
-    ensures purged { (g : Ground X) (t : ℕ) (url : List ℕ) (left : Epoch) (v w : View X) → Purged g t url v left w → KnowsAll v w }
-    ensures refused { (g : Ground X) (t : ℕ) (url : List ℕ) (cause : Cause) (v w : View X) → Refused g t url v cause w → KnowsAll v w }
+    ensures purged { (g : Ground X) (t : ℕ) (url : List ℕ) (left : Epoch) (v w : View X) → Purged g t url v left w → GrowsTo v w }
+    ensures refused { (g : Ground X) (t : ℕ) (url : List ℕ) (cause : Cause) (v w : View X) → Refused g t url v cause w → GrowsTo v w }
 {}
 
 /// At each answer of a call of which requests are made: where bytes were added or not, an entry was ended or not, a
 /// response was stored or not, a tab read on as far as it could, and the entry of a URL was got or not; and where
 /// reading on, or getting, stopped for want of memory.
 pub fn serving_grows<C: Cell, O: Origin>()
-    ensures added { (s : Store C O) (t total : ℕ) (e : Entry) (p q : Pass C) → BytesAdded C.tells C.state O.offers s t e p q total → KnowsAll (view p) (view q) }
+    ensures added { (s : Store C O) (t total : ℕ) (e : Entry) (p q : Pass C) → BytesAdded C.tells C.state O.offers s t e p q total → GrowsTo (view p) (view q) }
     ensures not_added { (s : Store C O) (t : ℕ) (e : Entry) (fault : WriteFault) (p q : Pass C)
-        → NotAdded C.tells C.state O.offers s t e p q fault → KnowsAll (view p) (view q) }
+        → NotAdded C.tells C.state O.offers s t e p q fault → GrowsTo (view p) (view q) }
     ensures ended { (s : Store C O) (t : ℕ) (e : Entry) (ended : Ended) (p q : Pass C)
-        → EndedWhole C.tells C.state O.offers s t e p q ended → KnowsAll (view p) (view q) }
+        → EndedWhole C.tells C.state O.offers s t e p q ended → GrowsTo (view p) (view q) }
     ensures not_ended { (s : Store C O) (t : ℕ) (e : Entry) (fault : WriteFault) (p q : Pass C)
-        → NotEnded C.tells C.state O.offers s t e p q fault → KnowsAll (view p) (view q) }
+        → NotEnded C.tells C.state O.offers s t e p q fault → GrowsTo (view p) (view q) }
     ensures put { (s : Store C O) (t offer : ℕ) (url : List ℕ) (durable : Bool) (ended : Ended) (p q : Pass C)
-        → PutWhole C.tells C.state O.offers s t offer url durable p q ended → KnowsAll (view p) (view q) }
+        → PutWhole C.tells C.state O.offers s t offer url durable p q ended → GrowsTo (view p) (view q) }
     ensures not_put { (s : Store C O) (t offer : ℕ) (url : List ℕ) (durable : Bool) (fault : PutFault) (p q : Pass C)
-        → NotPut C.tells C.state O.offers s t offer url durable p q fault → KnowsAll (view p) (view q) }
+        → NotPut C.tells C.state O.offers s t offer url durable p q fault → GrowsTo (view p) (view q) }
     ensures went { (s : Store C O) (t : ℕ) (e : Standing) (bytes : List ℕ) (answer : More) (p q : Pass C)
-        → WentOn C.tells C.state O.offers s t e p q bytes answer → KnowsAll (view p) (view q) }
+        → WentOn C.tells C.state O.offers s t e p q bytes answer → GrowsTo (view p) (view q) }
     ensures gave_some { (s : Store C O) (t : ℕ) (e : Standing) (bytes : List ℕ) (p q : Pass C)
-        → GaveSome C.tells C.state O.offers s t e p q bytes → KnowsAll (view p) (view q) }
+        → GaveSome C.tells C.state O.offers s t e p q bytes → GrowsTo (view p) (view q) }
     ensures got { (s : Store C O) (t : ℕ) (url bytes : List ℕ) (got : Got) (p q : Pass C)
-        → GotAs C.tells C.state O.offers s t url p q bytes got → KnowsAll (view p) (view q) }
+        → GotAs C.tells C.state O.offers s t url p q bytes got → GrowsTo (view p) (view q) }
     ensures stopped { (s : Store C O) (t : ℕ) (url bytes : List ℕ) (p q : Pass C)
-        → StoppedGetting C.tells C.state O.offers s t url p q bytes → KnowsAll (view p) (view q) }
+        → StoppedGetting C.tells C.state O.offers s t url p q bytes → GrowsTo (view p) (view q) }
 {}
 
 /// A tab reads so still in a later pass of the store that knows what this one knew, where the tab, its buffer and its
@@ -107,5 +107,5 @@ pub fn serving_grows<C: Cell, O: Origin>()
 pub fn readers_stay<C: Cell, O: Origin>()
     ensures { (s : Store C O) (p q : Pass C) (t : ℕ) (e : Standing) → ReadsAs C.tells C.state O.offers s p t e
         → IsOf C.tells C.state O.offers s q → tab_at (view q) t ≡ tab_at (view p) t → SameDesk p.desks q.desks t
-        → KnowsAll (view p) (view q) → ReadsAs C.tells C.state O.offers s q t e }
+        → GrowsTo (view p) (view q) → ReadsAs C.tells C.state O.offers s q t e }
 {}

@@ -114,9 +114,9 @@ module _ {C O : Type 0} (tells : Bool) (state : C → CellState) (offers : O →
   -- after each answer the tab reads on
   gave_reads : (s : Store C O) (p q : Pass C) (e : Standing) (before after : List ℕ) (more : More) → ReadsAs tells state offers s p t e → Gave tells state offers s t p e before after q more → (f : Standing) × ReadsAs tells state offers s q t f
   gave_reads s p q e before after (Piece count) reads g = (onward e, g.reads)
-  gave_reads s p q e before after (NotYet epoch) reads g = (e, g.waits.stays)
+  gave_reads s p q e before after (NotYet epoch) reads g = (e, g.stays)
   gave_reads s p q e before after End reads g = (e, subst (λ (z : Pass C). ReadsAs tells state offers s z t e) (sym g.still) reads)
-  gave_reads s p q e before after Halted reads g = (e, g.waits.stays)
+  gave_reads s p q e before after Halted reads g = (_, g.stays)
   gave_reads s p q e before after OtherUrl reads (inl g) = (e, subst (λ (z : Pass C). ReadsAs tells state offers s z t e) (sym g.still) reads)
   gave_reads s p q e before after OtherUrl reads (inr g) = (turned e, g.reads)
   gave_reads s p q e before after Fault reads g = (e, g.stays)

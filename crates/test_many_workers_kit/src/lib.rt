@@ -7,6 +7,7 @@ mod lying;
 mod meetings;
 mod offers;
 mod rules;
+mod tabs;
 
 pub use lines::{Asked, Kind, WORKERS, lines_about, script_of};
 pub use lying::{Liar, Lying, Veiled};

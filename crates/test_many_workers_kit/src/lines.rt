@@ -3,18 +3,24 @@ ghost use Rattle.std.specs.Prelude.{◌<◌};
 
 use std::alloc::{AllocError, Global};
 
-/// What a line asks for.
-#[derive(Clone, Copy)]
+/// What a line asks for. A worker writes on its tab 0, and reads on its tab 1.
+#[derive(Clone, Copy, PartialEq, Eq)]
 pub enum Kind {
     Put,
     Save,
     Get,
     Purge,
+    Begin,
+    Add,
+    Drop,
+    Open,
+    More,
+    Close,
     Mark,
     Await,
 }
 
-/// A line of a script. It is about the URL, or the mark, of a number.
+/// A line of a script. It is about the URL, or the mark, of a number; on a tab, about the URL that it was opened for.
 #[derive(Clone, Copy)]
 pub struct Asked {
     pub worker: u32,
@@ -33,12 +39,20 @@ pub const WORKERS: u32 = 32;
 /// How many rounds of requests each worker makes.
 const ROUNDS: u32 = 6;
 
-/// What each worker asks for in a round, and how many URLs behind the first one of the round.
-const ROUND: [(Kind, u32); 6] = [
+/// What each worker asks for in a round, and how many URLs behind the first one of the round. It begins an entry, gives
+/// it up while it reads it, or what stands there, and reads on twice.
+const ROUND: [(Kind, u32); 13] = [
     (Kind::Put, 0),
     (Kind::Get, 0),
     (Kind::Save, 1),
     (Kind::Get, 1),
+    (Kind::Begin, 3),
+    (Kind::Add, 3),
+    (Kind::Open, 3),
+    (Kind::Drop, 3),
+    (Kind::More, 3),
+    (Kind::More, 3),
+    (Kind::Close, 3),
     (Kind::Purge, 2),
     (Kind::Get, 2),
 ];
@@ -112,6 +126,14 @@ fn text_of(alloc: Global, asked: Asked, number: u32) -> Result<String, AllocErro
         }
         Kind::Get => format!(in alloc; "{worker} get http://a/{about:02}\n"),
         Kind::Purge => format!(in alloc; "{worker} purge http://a/{about:02}\n"),
+        Kind::Begin => {
+            format!(in alloc; "{worker} begin 0 http://a/{about:02} #{length}:{letter}\n")
+        }
+        Kind::Add => format!(in alloc; "{worker} add 0 900\n"),
+        Kind::Drop => format!(in alloc; "{worker} drop 0\n"),
+        Kind::Open => format!(in alloc; "{worker} open 1 http://a/{about:02}\n"),
+        Kind::More => format!(in alloc; "{worker} more 1\n"),
+        Kind::Close => format!(in alloc; "{worker} close 1\n"),
         Kind::Mark => format!(in alloc; "{worker} mark {about}\n"),
         Kind::Await => format!(in alloc; "{worker} await {about}\n"),
     }

@@ -2,6 +2,7 @@
 ghost use Rattle.std.specs.Prelude.{◌<◌};
 
 use crate::lines::{Asked, Kind, body_of};
+use crate::tabs::{NO_TABS, Tabs};
 use std::alloc::{AllocError, Global};
 use std::test::Fail;
 use store_key::{anchor_of, key_of};
@@ -9,7 +10,7 @@ use test_stories::push_text;
 
 /// What is printed of versions by all workers.
 #[derive(Drop)]
-struct Told<'a> {
+pub(crate) struct Told<'a> {
     lines: &'a [Asked],
     anchors: u32,
     /// The versions that were begun, each with the number of its line.
@@ -18,12 +19,12 @@ struct Told<'a> {
     purged: Vec<u32>,
     /// Whether the slots of the file suffice for the most that each anchor ever holds.
     fits: bool,
-    /// How many lines were answered FULL. The versions that they began are printed by none.
+    /// How many lines were answered FULL. What a put or a save among them began is printed by none.
     full: u32,
 }
 
 /// What was judged: the last answer of the first worker, how many lines were answered FULL, and how many showed an entry that
-/// was given back or given up, and not purged.
+/// was given back or given up, and neither purged nor begun on a tab.
 #[derive(Drop)]
 pub struct Judged<'a> {
     pub last: &'a str,
@@ -33,19 +34,19 @@ pub struct Judged<'a> {
 
 /// The number of a line, what it asks, and its answer.
 #[derive(Clone, Copy)]
-struct Answered<'a> {
-    number: u32,
-    asked: Asked,
-    answer: &'a str,
+pub(crate) struct Answered<'a> {
+    pub(crate) number: u32,
+    pub(crate) asked: Asked,
+    pub(crate) answer: &'a str,
 }
 
 /// The word at this place of an answer, or nothing.
-fn word(answer: &str, place: usize) -> &str {
+pub(crate) fn word(answer: &str, place: usize) -> &str {
     answer.split(' ').nth(place).unwrap_or("")
 }
 
 /// An epoch as a number that grows as it does: its version, then whether it is doomed, then its stage.
-fn rank_of(epoch: &str) -> Option<u64> {
+pub(crate) fn rank_of(epoch: &str) -> Option<u64> {
     let (text, doom) = match epoch.strip_suffix('d') {
         Some(text) => (text, 8),
         None => (epoch, 0),
@@ -59,7 +60,7 @@ fn rank(version: &str, doom: u64, stage: u8) -> Option<u64> {
     Some(u64::from(version) * 16 + doom % 16 + u64::from(stage % 8))
 }
 
-fn version_of(rank: u64) -> u32 {
+pub(crate) fn version_of(rank: u64) -> u32 {
     (rank / 16 % 4_294_967_296) as u32
 }
 
@@ -79,7 +80,8 @@ fn shown(answer: &str) -> Option<(u64, u64)> {
     match word(answer, 0) {
         "STORED" => Some((rank(first, 0, 3)?, rank(first, 0, 3)?)),
         "DOOMED" => Some((rank(first, 8, 7)?, rank(first, 8, 3)?)),
-        "HIT" => Some((rank(first, 0, 3)?, rank(first, 0, 2)?)),
+        "HIT" | "OPEN" => Some((rank(first, 0, 3)?, rank(first, 0, 2)?)),
+        "BEGUN" => Some((rank(first, 0, 1)?, rank(first, 0, 1)?)),
         "PART" | "PURGED" => Some((rank_of(first)?, rank_of(first)?)),
         "MISS" | "NONE" => Some((rank_of(second)?, rank_of(second)?)),
         "BUSY" => Some((
@@ -96,8 +98,14 @@ fn may_answer(kind: Kind, name: &str, fits: bool) -> bool {
         Kind::Put | Kind::Save => {
             name == "STORED" || name == "DOOMED" || name == "BUSY" || (name == "FULL" && !fits)
         }
-        Kind::Get => name == "HIT" || name == "PART" || name == "MISS",
+        Kind::Get => name == "HIT" || name == "PART" || name == "MISS" || name == "HALTED",
         Kind::Purge => name == "PURGED" || name == "NONE",
+        Kind::Begin => name == "BEGUN" || name == "BUSY",
+        Kind::Add => name == "ADDED" || name == "TAB" || (name == "FULL" && !fits),
+        Kind::Drop => name == "DROPPED" || name == "TAB",
+        Kind::Open => name == "OPEN" || name == "MISS",
+        Kind::More => name == "PART" || name == "END" || name == "HALTED" || name == "TAB",
+        Kind::Close => name == "CLOSED" || name == "TAB",
         Kind::Mark => name == "MARKED",
         Kind::Await => name == "MET",
     }
@@ -114,7 +122,7 @@ fn slots_for(number: u32) -> u64 {
 fn fits_into(alloc: Global, lines: &[Asked], anchors: u32, slots: u32) -> Result<bool, AllocError> {
     let mut most = vec![in alloc; 0u64; anchors as usize]?;
     for (number, asked) in (1u32..).zip(lines) {
-        if matches!(asked.kind, Kind::Put | Kind::Save) {
+        if matches!(asked.kind, Kind::Put | Kind::Save | Kind::Begin) {
             let url = url_of(alloc, *asked)?;
             let anchor = anchor_of(&key_of(url.as_bytes()), anchors.max(1));
             if let Some(held) = most.get_mut(anchor as usize) {
@@ -178,7 +186,7 @@ fn told_of<'a>(
     for Answered { number, answer, .. } in answers {
         let version = version_of(shown(answer).map_or(0, |(_, rank)| rank));
         match word(answer, 0) {
-            "STORED" | "DOOMED" => {
+            "STORED" | "DOOMED" | "BEGUN" => {
                 let is_new = begun.iter().all(|(other, _)| *other != version);
                 if !is_new || version == 0 {
                     return Err(broken(*number, answer));
@@ -200,6 +208,29 @@ fn told_of<'a>(
     })
 }
 
+/// Whether an answer has this front, and then so many bytes of the body that the line of this number offers, behind so many.
+pub(crate) fn has_bytes(
+    alloc: Global,
+    answer: &str,
+    front: &str,
+    number: u32,
+    behind: u32,
+    count: u32,
+) -> Result<bool, AllocError> {
+    let (length, letter) = body_of(number);
+    if behind.saturating_add(count) > length {
+        return Ok(false);
+    }
+    let from = letter.saturating_add(behind);
+    let text = match count {
+        0 => format!(in alloc; "{front} 0 -")?,
+        _ => format!(in alloc; "{front} {count} MADE({from},{count})")?,
+    };
+    let mut wanted = Vec::new(alloc);
+    push_text(alloc, &mut wanted, text.as_str(), 1)?;
+    Ok(answer.as_bytes() == wanted.as_slice())
+}
+
 /// The URL that a line is about.
 fn url_of(alloc: Global, asked: Asked) -> Result<String, AllocError> {
     format!(in alloc; "http://a/{:02}", asked.about)
@@ -207,39 +238,58 @@ fn url_of(alloc: Global, asked: Asked) -> Result<String, AllocError> {
 
 impl Told<'_> {
     /// The line that began a version, and its number.
-    fn beginning(&self, version: u32) -> Option<(u32, Asked)> {
+    pub(crate) fn beginning(&self, version: u32) -> Option<(u32, Asked)> {
         let (_, number) = self.begun.iter().find(|(begun, _)| *begun == version)?;
         let asked = self.lines.get((*number as usize).checked_sub(1)?)?;
         Some((*number, *asked))
     }
 
     /// Whether an answer gives the whole body, or a first part of it, of the line that began this version, which was about
-    /// the same URL. What a line wrote that was answered FULL is never given whole.
+    /// the same URL. What a line wrote that was answered FULL is never given whole, nor what one began by BEGUN, which is
+    /// given up.
     fn gives(&self, alloc: Global, one: Answered<'_>, version: u32) -> Result<bool, AllocError> {
         let Some((number, asked)) = self.beginning(version) else {
             return Ok(word(one.answer, 0) == "PART" && self.full > 0);
         };
-        let (length, letter) = body_of(number);
+        let (length, _) = body_of(number);
         let (name, first, count) = (
             word(one.answer, 0),
             word(one.answer, 1),
             word(one.answer, 2),
         );
         let count: u32 = count.parse().unwrap_or(u32::MAX);
-        let text = match count {
-            0 => format!(in alloc; "{name} {first} 0 -")?,
-            _ => format!(in alloc; "{name} {first} {count} MADE({letter},{count})")?,
-        };
-        let mut wanted = Vec::new(alloc);
-        let is_within = if name == "HIT" {
-            count == length
-        } else {
-            count <= length
-        };
-        if is_within {
-            push_text(alloc, &mut wanted, text.as_str(), 1)?;
+        let may_come = name != "HIT" || (count == length && asked.kind != Kind::Begin);
+        if asked.about != one.asked.about || !may_come {
+            return Ok(false);
         }
-        Ok(asked.about == one.asked.about && one.answer.as_bytes() == wanted.as_slice())
+        let front = format!(in alloc; "{name} {first}")?;
+        has_bytes(alloc, one.answer, front.as_str(), number, 0, count)
+    }
+
+    /// Whether an answer gives the front of the body of a line that began an entry of this URL, which was given up; or of one
+    /// that was answered FULL, whose version nobody tells.
+    fn halts(&self, alloc: Global, one: Answered<'_>) -> Result<bool, AllocError> {
+        let count: u32 = word(one.answer, 1).parse().unwrap_or(u32::MAX);
+        for (version, number) in &self.begun {
+            let Some((_, asked)) = self.beginning(*version) else {
+                return Ok(false);
+            };
+            if asked.kind == Kind::Begin
+                && asked.about == one.asked.about
+                && has_bytes(alloc, one.answer, "HALTED", *number, 0, count)?
+            {
+                return Ok(true);
+            }
+        }
+        Ok(self.was_full())
+    }
+
+    /// Whether the line that began this version was about the same URL.
+    fn is_about(&self, one: Answered<'_>, version: u32) -> bool {
+        match self.beginning(version) {
+            Some((_, asked)) => asked.about == one.asked.about,
+            None => self.was_full(),
+        }
     }
 
     /// Whether an epoch that was found is a cause not to hit, and the one that is told.
@@ -273,6 +323,8 @@ impl Told<'_> {
     fn allows(&self, alloc: Global, one: Answered<'_>, found: u64) -> Result<bool, AllocError> {
         match word(one.answer, 0) {
             "HIT" => self.gives(alloc, one, version_of(found)),
+            "OPEN" => Ok(self.is_about(one, version_of(found))),
+            "PART" if one.asked.kind == Kind::More => Ok(stage_of(found) == 2),
             "PART" => Ok(stage_of(found) == 2 && self.gives(alloc, one, version_of(found))?),
             "MISS" | "NONE" => self.is_cause(alloc, one, found),
             "BUSY" => Ok(is_busy(one.answer)),
@@ -286,16 +338,26 @@ impl Told<'_> {
         !is_doomed(rank) || self.purged.contains(&version_of(rank))
     }
 
-    /// Whether this epoch may be shown. In a script that fits no entry gives way, and none is given up, since no line is
-    /// answered FULL.
-    fn may_show(&self, rank: u64) -> bool {
-        self.was_purged(rank) && (!self.fits || !gave_way(rank))
+    /// Whether an entry at this epoch was given up or evicted, was not purged, and is none of those that a worker began on a
+    /// tab, all of which it gives up.
+    fn gave_way(&self, rank: u64) -> bool {
+        let was_begun = match self.beginning(version_of(rank)) {
+            Some((_, asked)) => asked.kind == Kind::Begin,
+            None => false,
+        };
+        !is_doomed(rank) && stage_of(rank) >= 4 && !was_begun
     }
-}
 
-/// Whether an entry at this epoch was given up or evicted, and not purged.
-fn gave_way(rank: u64) -> bool {
-    !is_doomed(rank) && stage_of(rank) >= 4
+    /// Whether this epoch may be shown. In a script that fits no entry gives way, and none but those that were begun on tabs
+    /// is given up, since no line is answered FULL.
+    fn may_show(&self, rank: u64) -> bool {
+        self.was_purged(rank) && (!self.fits || !self.gave_way(rank))
+    }
+
+    /// Whether a line was answered FULL, so that there may be versions of which no answer tells who began them.
+    pub(crate) fn was_full(&self) -> bool {
+        self.full > 0
+    }
 }
 
 /// A writer is refused by the word that it looked at, which is the one that it found, or by another one that it found behind
@@ -317,19 +379,23 @@ fn broken(number: u32, answer: &str) -> Fail {
 }
 
 /// Judges an answer, and tells whether it shows an entry that gave way. `seen` has the greatest epoch that the worker was
-/// shown at each anchor.
+/// shown at each anchor, and `tabs` what its lines so far left of its tabs.
 fn judge_one(
     alloc: Global,
     told: &Told<'_>,
     one: Answered<'_>,
     seen: &mut [u64],
+    tabs: &mut Tabs,
 ) -> Result<bool, Fail> {
     let Answered {
         number,
         asked,
         answer,
     } = one;
-    if !may_answer(asked.kind, word(answer, 0), told.fits) {
+    if !may_answer(asked.kind, word(answer, 0), told.fits) || !tabs.judge(alloc, told, one)? {
+        return Err(broken(number, answer));
+    }
+    if asked.kind == Kind::Get && word(answer, 0) == "HALTED" && !told.halts(alloc, one)? {
         return Err(broken(number, answer));
     }
     let Some((most, found)) = shown(answer) else {
@@ -347,7 +413,7 @@ fn judge_one(
         return Err(Fail::new(format_args!("{number}: {answer} behind {before}")));
     }
     *before = (*before).max(found);
-    Ok(gave_way(most) || gave_way(found))
+    Ok(told.gave_way(most) || told.gave_way(found))
 }
 
 /// Judges what was printed of a run over a file of so many slots that had no entry.
@@ -362,15 +428,17 @@ pub fn judge<'a>(
     let fits = fits_into(alloc, lines, anchors, slots)?;
     let told = told_of(alloc, lines, anchors, fits, &answers)?;
     let mut seen = vec![in alloc; 0u64; anchors as usize]?;
+    let mut tabs = NO_TABS;
     let mut worker: u32 = 0;
     let mut last = "";
     let mut gave_way: u32 = 0;
     for one in &answers {
         if one.asked.worker != worker {
             seen.fill(0);
+            tabs = NO_TABS;
             worker = one.asked.worker;
         }
-        if judge_one(alloc, &told, *one, &mut seen)? {
+        if judge_one(alloc, &told, *one, &mut seen, &mut tabs)? {
             gave_way = gave_way.wrapping_add(1);
         }
         if worker == 1 {

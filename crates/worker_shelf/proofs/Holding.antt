@@ -6,7 +6,7 @@ use Rattle.std.proofs.lemmas.Bool.Decides.{eqb_tells}
 use Rattle.std.proofs.lemmas.List.{get_or-set_other, get_or-set_same, length-set}
 use Rattle.rock_disk.specs.Cell.{CellState}
 use Rattle.core_model.specs.declared.view.View.{View}
-use Rattle.core_model.specs.Knowing.{KnowsAll}
+use Rattle.store_serve.specs.Growing.{GrowsTo}
 use Rattle.store_rule.specs.declared.store.Pass.{Pass}
 use Rattle.store_rule.specs.declared.store.Store.{Store}
 use Rattle.store_rule.specs.Ground.{Offers}
@@ -14,6 +14,7 @@ use Rattle.store_serve.specs.Tabs.{Entry, Holds, IsFree, Leaves, ReadsAs, Standi
 use Rattle.store_serve.specs.Whole.{whole_tab}
 use Rattle.store_serve.specs.declared.tabs.ScriptTab.{ScriptTab}
 use Rattle.store_serve.specs.declared.tabs.ScriptTab.TheVariants.{Free, Reading, Writing}
+use Rattle.store_serve.proofs.Grown as grown
 use Rattle.worker_shelf.specs.Shelves.{AllHold, kept_at}
 
 -- the place of a list that it has, whatever stands for one that it has not
@@ -28,11 +29,11 @@ set_twice [] i a b = refl
 set_twice (x ∷ xs) zero a b = refl
 set_twice (x ∷ xs) (suc i) a b = ap (λ ys. x ∷ ys) (set_twice xs i a b)
 
-pub nothing_lost : {X : Type 0} (v : View X) → KnowsAll v v
-nothing_lost v = record { pass = refl; seen = λ x h. h; trail = λ x h. h; met = λ a h. h }
+pub nothing_lost : {X : Type 0} (v : View X) → GrowsTo v v
+nothing_lost v = grown.stays v
 
-pub both_kept : {X : Type 0} (u v w : View X) → KnowsAll u v → KnowsAll v w → KnowsAll u w
-both_kept u v w a b = record { pass = b.pass ∙ a.pass; seen = λ x h. b.seen x (a.seen x h); trail = λ x h. b.trail x (a.trail x h); met = λ y h. b.met y (a.met y h) }
+pub both_kept : {X : Type 0} (u v w : View X) → GrowsTo u v → GrowsTo v w → GrowsTo u w
+both_kept u v w a b = grown.on a b
 
 module _ {C O : Type 0} (tells : Bool) (state : C → CellState) (offers : O → Offers) (s : Store C O) where
   -- what store_serve says of other tabs than that of a request

@@ -12,7 +12,7 @@ use Rattle.core_model.specs.Tabs.{inner, is_free, tab_at}
 use Rattle.core_model.specs.declared.view.Item.{Item}
 use Rattle.core_model.specs.declared.view.Sight.{Sight}
 use Rattle.core_model.specs.declared.view.View.{View}
-use Rattle.core_model.specs.Knowing.{KnowsAll as Knows}
+use Rattle.store_serve.specs.Growing.{GrowsTo as Knows}
 use Rattle.tab_states.specs.declared.desks.Desk.{Desk}
 use Rattle.store_rule.specs.declared.store.Pass.{Pass}
 use Rattle.store_rule.specs.declared.store.Store.{Store}
@@ -35,7 +35,7 @@ knows_more : {X : Type 0} (v : View X) (sights : List Sight) (item : Item) → K
 knows_more v sights item = record {
   pass = refl;
   seen = λ x h. Contains-append_right sights v.seen x h;
-  trail = λ x h. Contains-append_right (item ∷ []) v.trail x h;
+  trail = (item ∷ [], refl);
   met = λ a h. h;
 }
 

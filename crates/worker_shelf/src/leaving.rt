@@ -1,6 +1,6 @@
 // All tabs of the script are left.
 ghost use Rattle.std.specs.Prelude.{◌<◌, ◌≡◌, ℕ};
-ghost use Rattle.core_model.specs.Knowing.{KnowsAll};
+ghost use Rattle.store_serve.specs.Growing.{GrowsTo};
 ghost use Rattle.store_rule.specs.Passes.{hand, view};
 ghost use Rattle.store_serve.specs.Tabs.{Holds, IsFree, IsReady};
 ghost use Rattle.store_serve.specs.Whole.{whole_tab};
@@ -21,7 +21,7 @@ pub(crate) fn leave_tabs<C: Cell, O: Origin>(
     ensures left { LeftBelow C.tells C.state O.offers store.now whole_tab pass.old pass.new }
     ensures holds { AllHold C.tells C.state O.offers store.now pass.new tabs.new }
     ensures free { (tab : ℕ) → tab < whole_tab → IsFree pass.new tab }
-    ensures keeps { KnowsAll (view pass.old) (view pass.new) }
+    ensures keeps { GrowsTo (view pass.old) (view pass.new) }
     ensures places { hand pass.new ≡ hand pass.old }
     ensures cells { pass.new.cells ≡ pass.old.cells }
 {

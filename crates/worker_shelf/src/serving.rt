@@ -2,7 +2,7 @@
 ghost use Rattle.std.specs.Prelude.{IfOk, OnErr, length, ◌+◌, ◌<◌, ◌≡◌, ◌≤◌, ℕ};
 ghost use Rattle.slot_cell.specs.declared.header.TheConstants.{HEADER_SIZE};
 ghost use Rattle.script_text.specs.Tabs.{UsesTab};
-ghost use Rattle.core_model.specs.Knowing.{KnowsAll};
+ghost use Rattle.store_serve.specs.Growing.{GrowsTo};
 ghost use Rattle.store_rule.specs.Passes.{basis, hand, view};
 ghost use Rattle.store_serve.specs.Answers.{TellsFaults};
 ghost use Rattle.store_serve.specs.Serving.{Serves, ServesRequest, Takes, offer_of};
@@ -44,7 +44,7 @@ pub(crate) fn serve_line<R: Wait, C: Cell, O: Origin, St: Station<C = C>>(
     ensures served { IfOk result (λ answer. Serves C.tells C.state O.offers store.now line.now pass.old answer pass.new (St.faults station.old) (St.faults station.new)) }
     ensures holds { AllHold C.tells C.state O.offers store.now pass.new tabs.new }
     ensures free { OnErr result ((tab : ℕ) → UsesTab line.now.request tab → IsFree pass.new tab) }
-    ensures keeps { KnowsAll (view pass.old) (view pass.new) }
+    ensures keeps { GrowsTo (view pass.old) (view pass.new) }
     ensures places { hand pass.new ≡ hand pass.old }
     ensures cells { pass.new.cells ≡ pass.old.cells }
     ensures length { length piece.new ≡ length piece.old }

@@ -79,7 +79,7 @@ returns-then-times-most-clause-went g c e reads = let h = c.loop.invariant.read 
 
 pub returns-then-times-most-clause-reads : goal.returns-then-times-most-clause-reads
 returns-then-times-most-clause-reads g c = let i = c.loop.invariant in let h = i.read c.requires.reads.0 c.requires.reads.1 in
-    let wait = subst (λ (z : More). Gave g.C.Cell.tells g.C.Cell.state g.O.Origin.offers c.args.store.now c.args.tab c.loop.pass h.standing c.loop.buf c.more-answer.new.out c.more-answer.new.pass z) c.in-NotYet.is (c.more-answer.ensures.gave h.standing h.reads) in (_, wait.waits.stays)
+    let wait = subst (λ (z : More). Gave g.C.Cell.tells g.C.Cell.state g.O.Origin.offers c.args.store.now c.args.tab c.loop.pass h.standing c.loop.buf c.more-answer.new.out c.more-answer.new.pass z) c.in-NotYet.is (c.more-answer.ensures.gave h.standing h.reads) in (_, wait.stays)
 
 pub returns-then-times-most-clause-others : goal.returns-then-times-most-clause-others
 returns-then-times-most-clause-others g c = let i = c.loop.invariant in reader_on g.C.Cell.tells g.C.Cell.state g.O.Origin.offers c.args.store.now c.args.tab c.args.pass.now c.loop.pass c.more-answer.new.pass i.follows c.more-answer.ensures.others

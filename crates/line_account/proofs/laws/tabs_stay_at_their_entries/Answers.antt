@@ -1,5 +1,5 @@
 use Rattle.line_account.proofs.Tabs.{front_new, front_old, halted_same, never_both, part_same}
-use Rattle.line_account.proofs.Stopping.{ended_stays, halted_stays, never_grows, turned_stays}
+use Rattle.line_account.proofs.Stopping.{ended_stays, halted_stays, turned_stays}
 use Rattle.line_account.proofs.laws.tabs_stay_at_their_entries.Goals as goal
 
 pub returns-clause-part : goal.returns-clause-part
@@ -20,11 +20,8 @@ returns-clause-behind_end c start r crew tab closed p = ended_stays r crew close
 pub returns-clause-behind_other : goal.returns-clause-behind_other
 returns-clause-behind_other c start r crew tab closed p = turned_stays r crew closed tab p
 
-pub returns-clause-no_part : goal.returns-clause-no_part
-returns-clause-no_part c start r crew tab closed p = never_grows r crew closed tab p
-
 pub returns-clause-behind_halted : goal.returns-clause-behind_halted
-returns-clause-behind_halted c start r crew tab closed y p = halted_stays r crew closed tab y p
+returns-clause-behind_halted c start r crew tab closed p = halted_stays r crew closed tab p
 
 pub returns-clause-one_url : goal.returns-clause-one_url
 returns-clause-one_url c start r crew a x url closed y p q = never_both r crew closed y a x url p q

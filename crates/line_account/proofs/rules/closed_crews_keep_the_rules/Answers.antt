@@ -71,8 +71,7 @@ returns g c r script crew closed serves have = record {
     new = λ tells a x p high. c.tabs_stay_at_their_entries.ensures.new r crew a x closed tells p high;
     behind_end = λ tab p. c.tabs_stay_at_their_entries.ensures.behind_end r crew tab closed p;
     behind_other = λ tab p. c.tabs_stay_at_their_entries.ensures.behind_other r crew tab closed p;
-    no_part = λ tab p. c.tabs_stay_at_their_entries.ensures.no_part r crew tab closed p;
-    behind_halted = λ tells tab p. c.tabs_stay_at_their_entries.ensures.behind_halted r crew tab closed tells p;
+    behind_halted = λ tab p. c.tabs_stay_at_their_entries.ensures.behind_halted r crew tab closed p;
     one_url = λ tells a x url p q. c.tabs_stay_at_their_entries.ensures.one_url r crew a x url closed tells p q;
   };
   parts = λ tells. c.parts_are_not_short.ensures r crew closed have tells;
