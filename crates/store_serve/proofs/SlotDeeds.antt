@@ -49,7 +49,7 @@ module _ {X : Type 0} {P : Deed → Type 0} where
   -- so does a tab that frees
   blanked : (v u : View X) (t : ℕ) (f : Freer X) (h : Hold X) → u ≡ with_wiper v t f h → Acted None P v u
   blanked v u t f h e = subst (λ (z : View X). Acted None P v z) (sym e) (record {
-    keeps = record { pass = refl; seen = λ x c. c; trail = λ x c. c; met = λ a c. c };
+    keeps = record { pass = refl; seen = λ x c. c; trail = ([], refl); met = λ a c. c };
     drawn = λ x. omega arith;
     draws = omega arith;
     deeds = λ d c. inl c;

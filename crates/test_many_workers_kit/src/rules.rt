@@ -17,10 +17,23 @@ pub(crate) struct Told<'a> {
     begun: Vec<(u32, u32)>,
     /// The versions that were purged.
     purged: Vec<u32>,
+    /// The lines whose entry was given up: one that was begun on a tab, and what a put or a save began that was answered FULL.
+    given_up: Vec<u32>,
+    /// Those of them that were answered FULL. Which version they began is printed by none.
+    untold: Vec<u32>,
     /// Whether the slots of the file suffice for the most that each anchor ever holds.
     fits: bool,
-    /// How many lines were answered FULL. What a put or a save among them began is printed by none.
+    /// How many lines were answered FULL.
     full: u32,
+}
+
+/// An answer that gives bytes: the words in front of them and their count, and how many bytes its tab was given before.
+#[derive(Clone, Copy)]
+pub(crate) struct Given<'a> {
+    answer: &'a str,
+    front: &'a str,
+    count: u32,
+    behind: u32,
 }
 
 /// What was judged: the last answer of the first worker, how many lines were answered FULL, and how many showed an entry that
@@ -38,6 +51,42 @@ pub(crate) struct Answered<'a> {
     pub(crate) number: u32,
     pub(crate) asked: Asked,
     pub(crate) answer: &'a str,
+}
+
+/// What an answer gives behind so many bytes, where its last two words are a count and bytes.
+pub(crate) fn given_in(answer: &str, behind: u32) -> Option<Given<'_>> {
+    let (words, _) = answer.rsplit_once(' ')?;
+    let (front, count) = words.rsplit_once(' ')?;
+    Some(Given {
+        answer,
+        front,
+        count: count.parse().ok()?,
+        behind,
+    })
+}
+
+impl Given<'_> {
+    /// How many bytes the tab was given with these.
+    pub(crate) fn all(self) -> u32 {
+        self.behind.saturating_add(self.count)
+    }
+
+    /// Whether the bytes are those that stand there in the body that the line of this number offers.
+    pub(crate) fn is_of(self, alloc: Global, number: u32) -> Result<bool, AllocError> {
+        let (length, letter) = body_of(number);
+        if self.all() > length {
+            return Ok(false);
+        }
+        let Given { front, count, .. } = self;
+        let from = letter.saturating_add(self.behind);
+        let text = match count {
+            0 => format!(in alloc; "{front} 0 -")?,
+            _ => format!(in alloc; "{front} {count} MADE({from},{count})")?,
+        };
+        let mut wanted = Vec::new(alloc);
+        push_text(alloc, &mut wanted, text.as_str(), 1)?;
+        Ok(self.answer.as_bytes() == wanted.as_slice())
+    }
 }
 
 /// The word at this place of an answer, or nothing.
@@ -182,8 +231,13 @@ fn told_of<'a>(
 ) -> Result<Told<'a>, Fail> {
     let mut begun: Vec<(u32, u32)> = Vec::new(alloc);
     let mut purged = Vec::new(alloc);
+    let (mut given_up, mut untold) = (Vec::new(alloc), Vec::new(alloc));
     let mut full: u32 = 0;
-    for Answered { number, answer, .. } in answers {
+    for Answered {
+        number,
+        asked,
+        answer,
+    } in answers {
         let version = version_of(shown(answer).map_or(0, |(_, rank)| rank));
         match word(answer, 0) {
             "STORED" | "DOOMED" | "BEGUN" => {
@@ -197,38 +251,25 @@ fn told_of<'a>(
             "FULL" => full = full.wrapping_add(1),
             _ => {}
         }
+        match (asked.kind, word(answer, 0)) {
+            (Kind::Begin, "BEGUN") => given_up.push(*number)?,
+            (Kind::Put | Kind::Save, "FULL") => {
+                given_up.push(*number)?;
+                untold.push(*number)?;
+            }
+            _ => {}
+        }
     }
     Ok(Told {
         lines,
         anchors,
         begun,
         purged,
+        given_up,
+        untold,
         fits,
         full,
     })
-}
-
-/// Whether an answer has this front, and then so many bytes of the body that the line of this number offers, behind so many.
-pub(crate) fn has_bytes(
-    alloc: Global,
-    answer: &str,
-    front: &str,
-    number: u32,
-    behind: u32,
-    count: u32,
-) -> Result<bool, AllocError> {
-    let (length, letter) = body_of(number);
-    if behind.saturating_add(count) > length {
-        return Ok(false);
-    }
-    let from = letter.saturating_add(behind);
-    let text = match count {
-        0 => format!(in alloc; "{front} 0 -")?,
-        _ => format!(in alloc; "{front} {count} MADE({from},{count})")?,
-    };
-    let mut wanted = Vec::new(alloc);
-    push_text(alloc, &mut wanted, text.as_str(), 1)?;
-    Ok(answer.as_bytes() == wanted.as_slice())
 }
 
 /// The URL that a line is about.
@@ -240,55 +281,75 @@ impl Told<'_> {
     /// The line that began a version, and its number.
     pub(crate) fn beginning(&self, version: u32) -> Option<(u32, Asked)> {
         let (_, number) = self.begun.iter().find(|(begun, _)| *begun == version)?;
-        let asked = self.lines.get((*number as usize).checked_sub(1)?)?;
-        Some((*number, *asked))
+        Some((*number, self.line(*number)?))
+    }
+
+    /// The line of this number.
+    fn line(&self, number: u32) -> Option<Asked> {
+        let asked = self.lines.get((number as usize).checked_sub(1)?)?;
+        Some(*asked)
+    }
+
+    /// Whether the line of this number is about this URL.
+    fn names(&self, number: u32, about: u32) -> bool {
+        match self.line(number) {
+            Some(asked) => asked.about == about,
+            None => false,
+        }
     }
 
     /// Whether an answer gives the whole body, or a first part of it, of the line that began this version, which was about
-    /// the same URL. What a line wrote that was answered FULL is never given whole, nor what one began by BEGUN, which is
-    /// given up.
+    /// the same URL. What was given up is never given whole.
     fn gives(&self, alloc: Global, one: Answered<'_>, version: u32) -> Result<bool, AllocError> {
+        let Some(given) = given_in(one.answer, 0) else {
+            return Ok(false);
+        };
+        let is_whole = word(one.answer, 0) == "HIT";
         let Some((number, asked)) = self.beginning(version) else {
-            return Ok(word(one.answer, 0) == "PART" && self.full > 0);
+            return Ok(!is_whole && self.gives_untold(alloc, given, one.asked.about)?);
         };
         let (length, _) = body_of(number);
-        let (name, first, count) = (
-            word(one.answer, 0),
-            word(one.answer, 1),
-            word(one.answer, 2),
-        );
-        let count: u32 = count.parse().unwrap_or(u32::MAX);
-        let may_come = name != "HIT" || (count == length && asked.kind != Kind::Begin);
-        if asked.about != one.asked.about || !may_come {
-            return Ok(false);
-        }
-        let front = format!(in alloc; "{name} {first}")?;
-        has_bytes(alloc, one.answer, front.as_str(), number, 0, count)
+        let may_come = !is_whole || (given.count == length && asked.kind != Kind::Begin);
+        Ok(may_come && asked.about == one.asked.about && given.is_of(alloc, number)?)
     }
 
-    /// Whether an answer gives the front of the body of a line that began an entry of this URL, which was given up; or of one
-    /// that was answered FULL, whose version nobody tells.
+    /// Whether an answer of a get gives the front of the body of a line about the same URL, whose entry was given up.
     fn halts(&self, alloc: Global, one: Answered<'_>) -> Result<bool, AllocError> {
-        let count: u32 = word(one.answer, 1).parse().unwrap_or(u32::MAX);
-        for (version, number) in &self.begun {
-            let Some((_, asked)) = self.beginning(*version) else {
-                return Ok(false);
-            };
-            if asked.kind == Kind::Begin
-                && asked.about == one.asked.about
-                && has_bytes(alloc, one.answer, "HALTED", *number, 0, count)?
-            {
+        let Some(given) = given_in(one.answer, 0) else {
+            return Ok(false);
+        };
+        for number in &self.given_up {
+            if self.names(*number, one.asked.about) && given.is_of(alloc, *number)? {
                 return Ok(true);
             }
         }
-        Ok(self.was_full())
+        Ok(false)
     }
 
-    /// Whether the line that began this version was about the same URL.
+    /// Whether an answer gives bytes of the body of a line about this URL that was answered FULL.
+    pub(crate) fn gives_untold(
+        &self,
+        alloc: Global,
+        given: Given<'_>,
+        about: u32,
+    ) -> Result<bool, AllocError> {
+        for number in &self.untold {
+            if self.names(*number, about) && given.is_of(alloc, *number)? {
+                return Ok(true);
+            }
+        }
+        Ok(false)
+    }
+
+    /// Whether the line that began this version was about the same URL. One that was answered FULL may have been.
     fn is_about(&self, one: Answered<'_>, version: u32) -> bool {
         match self.beginning(version) {
             Some((_, asked)) => asked.about == one.asked.about,
-            None => self.was_full(),
+            None => {
+                self.untold
+                    .iter()
+                    .any(|number| self.names(*number, one.asked.about))
+            }
         }
     }
 
@@ -308,7 +369,7 @@ impl Told<'_> {
     /// Whether the key told is that of the line that began the version, and not that of the URL that is asked for.
     fn is_other(&self, alloc: Global, one: Answered<'_>, found: u64) -> Result<bool, AllocError> {
         let Some((_, asked)) = self.beginning(version_of(found)) else {
-            return Ok(self.full > 0);
+            return Ok(!self.untold.is_empty());
         };
         let text = format!(in alloc; "KEY({})", url_of(alloc, asked)?)?;
         let mut key = Vec::new(alloc);
@@ -348,15 +409,18 @@ impl Told<'_> {
         !is_doomed(rank) && stage_of(rank) >= 4 && !was_begun
     }
 
+    /// Whether an entry at this epoch is not at HALTED, or was given up.
+    fn was_given_up(&self, rank: u64) -> bool {
+        match self.beginning(version_of(rank)) {
+            Some((_, asked)) => stage_of(rank) != 4 || asked.kind == Kind::Begin,
+            None => stage_of(rank) != 4 || !self.untold.is_empty(),
+        }
+    }
+
     /// Whether this epoch may be shown. In a script that fits no entry gives way, and none but those that were begun on tabs
     /// is given up, since no line is answered FULL.
     fn may_show(&self, rank: u64) -> bool {
-        self.was_purged(rank) && (!self.fits || !self.gave_way(rank))
-    }
-
-    /// Whether a line was answered FULL, so that there may be versions of which no answer tells who began them.
-    pub(crate) fn was_full(&self) -> bool {
-        self.full > 0
+        self.was_purged(rank) && self.was_given_up(rank) && (!self.fits || !self.gave_way(rank))
     }
 }
 

@@ -1,6 +1,6 @@
 // The rules for the tabs of a worker: what a line on one is answered, by the lines of the worker before it.
 use crate::lines::{Kind, body_of};
-use crate::rules::{Answered, Told, has_bytes, rank_of, version_of, word};
+use crate::rules::{Answered, Told, given_in, rank_of, version_of, word};
 use std::alloc::{AllocError, Global};
 
 /// What the tab 0 of a worker, which writes, and its tab 1, which reads, are at.
@@ -66,7 +66,7 @@ impl Tabs {
             Kind::Add => Ok((name != "TAB") == is_writing),
             Kind::Drop => Ok((name == "DROPPED") == is_writing),
             Kind::Close => Ok((name == "CLOSED") == reader.is_some()),
-            Kind::More => self.reads_on(alloc, told, one.answer),
+            Kind::More => self.reads_on(alloc, told, one),
             _ => Ok(true),
         }
     }
@@ -78,54 +78,37 @@ impl Tabs {
         &mut self,
         alloc: Global,
         told: &Told<'_>,
-        answer: &str,
+        one: Answered<'_>,
     ) -> Result<bool, AllocError> {
         let Some(reader) = self.reader else {
-            return Ok(answer == "TAB");
+            return Ok(one.answer == "TAB");
         };
         if reader.is_halted {
-            return Ok(answer == "HALTED 0 -");
+            return Ok(one.answer == "HALTED 0 -");
         }
-        let (name, first) = (word(answer, 0), word(answer, 1));
-        let Some((number, began)) = told.beginning(reader.version) else {
-            return Ok(self.reads_untold(told, reader, name, first));
-        };
-        let (length, _) = body_of(number);
-        let is_part = name == "PART";
-        let place = if is_part { 2 } else { 1 };
-        let count: u32 = word(answer, place).parse().unwrap_or(u32::MAX);
-        let given = reader.given.saturating_add(count);
-        let was_begun = began.kind == Kind::Begin;
-        let may_come = match name {
-            "PART" => is_of(first, reader.version) && given < length,
-            "END" => !was_begun && given == length,
-            "HALTED" => was_begun && given < length,
-            _ => false,
-        };
-        if !may_come {
+        let Some(given) = given_in(one.answer, reader.given) else {
             return Ok(false);
-        }
+        };
+        let name = word(one.answer, 0);
         self.reader = Some(Reader {
             version: reader.version,
-            given,
+            given: given.all(),
             is_halted: name == "HALTED",
         });
-        let front = if is_part {
-            format!(in alloc; "PART {first}")?
-        } else {
-            format!(in alloc; "{name}")?
+        let is_part = name == "PART" && is_of(word(one.answer, 1), reader.version);
+        let Some((number, began)) = told.beginning(reader.version) else {
+            // its line was answered FULL, so it comes to no END
+            let may_come = is_part || name == "HALTED";
+            return Ok(may_come && told.gives_untold(alloc, given, one.asked.about)?);
         };
-        has_bytes(alloc, answer, front.as_str(), number, reader.given, count)
-    }
-
-    /// Whether a tab may be answered so that reads a version of which no answer tells who began it. Its line was answered
-    /// FULL, so it comes to no END.
-    fn reads_untold(&mut self, told: &Told<'_>, reader: Reader, name: &str, first: &str) -> bool {
-        let is_halted = name == "HALTED";
-        self.reader = Some(Reader {
-            is_halted,
-            ..reader
-        });
-        told.was_full() && (is_halted || (name == "PART" && is_of(first, reader.version)))
+        let (length, _) = body_of(number);
+        let is_begun = began.kind == Kind::Begin;
+        let may_come = match name {
+            "PART" => is_part && given.all() < length,
+            "END" => !is_begun && given.all() == length,
+            "HALTED" => is_begun && given.all() < length,
+            _ => false,
+        };
+        Ok(may_come && given.is_of(alloc, number)?)
     }
 }
