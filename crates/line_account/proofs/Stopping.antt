@@ -113,7 +113,7 @@ module _ (so : Answer → Bool) where
           let h = before (sym (on (opens tab s.asked.request s.answer) (closes tab s.asked.request s.answer) is_o is_k) ∙ r) (sym (came (opens tab s.asked.request s.answer) (answers_more so tab s.asked.request s.answer) is_o is_m) ∙ e) in
           record { later = s ∷ h.later; line = h.line; back = h.back; split = ap (λ (z : List Served). s ∷ z) h.split; is = h.is; reads = h.reads }
 
-module _ {X : Type 0} (r : Run X) (crew : List (Worker X)) (c : Closed r crew) (tab : ℕ) where
+module _ {X : Type 0} (r : Run X) (crew : List Worker) (c : Closed r crew) (tab : ℕ) where
   pub ended_stays : (p : LineIn crew (λ earlier s. ReadsBehind is_end earlier s tab)) → p.served.answer ≡ answer.End []
   ended_stays p = (tells_at r crew c (λ earlier s. ReadsBehind is_end earlier s tab) p).behind_end tab p.so
 
@@ -131,7 +131,7 @@ module _ {X : Type 0} (r : Run X) (crew : List (Worker X)) (c : Closed r crew) (
     abbrev before : List Served
     before = p.earlier
 
-    t : Tells r p.worker.view before l
+    t : Tells r (c.view_at p.j) before l
     t = tells_at r crew c (λ earlier s. ReadsBehind is_halted earlier s tab) p
 
     open_line : (first : Served) × (reading tab before ≡ Some first)
@@ -146,10 +146,10 @@ module _ {X : Type 0} (r : Run X) (crew : List (Worker X)) (c : Closed r crew) (
     split : p.worker.served ≡ (p.later ++ l ∷ b.later) ++ b.line ∷ b.back
     split = p.split ∙ ap (λ (z : List Served). p.later ++ l ∷ z) b.split ∙ sym (append_assoc p.later (l ∷ b.later) (b.line ∷ b.back))
 
-    told : Tells r p.worker.view b.back b.line
+    told : Tells r (c.view_at p.j) b.back b.line
     told = (c.accounts p.j p.worker p.at).lines (p.later ++ l ∷ b.later) b.back b.line split
 
-    g : HasGiven r p.worker.view b.back b.line
+    g : HasGiven r (c.view_at p.j) b.back b.line
     g = told.given y (halted_reads b.line.answer b.is.is)
       where
         halted_reads : (a : Answer) → is_halted a ≡ true → Reads a

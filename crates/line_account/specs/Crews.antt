@@ -13,16 +13,16 @@ use Rattle.line_account.specs.Order.{HandsOver}
 use Rattle.line_account.specs.Parts.{IsCourseOf}
 use Rattle.line_account.specs.ScriptOrder.{◌followed_by◌, ◌then◌}
 
--- a worker came to its end along a course
-pub record HasCourse {X : Type 0} (r : Run X) (w : Worker X) : Type 0 where
+-- a worker came to its end, with this view, along a course
+pub record HasCourse {X : Type 0} (r : Run X) (w : Worker) (end : View X) : Type 0 where
   pub start : View X
   pub stages : List (Stage X)
-  pub is : IsCourseOf r w start stages
+  pub is : IsCourseOf r w start stages end
 
--- Each worker did so. Where one met a mark that the same or another worker set, this hands over what its setter knew.
-pub record HaveCourses {X : Type 0} (r : Run X) (crew : List (Worker X)) : Type 0 where
-  pub course : (j : ℕ) (w : Worker X) → get_elem? crew j ≡ some w → HasCourse r w
-  pub meets : (j l : ℕ) (w u : Worker X) (setter : get_elem? crew j ≡ some w) (other : get_elem? crew l ≡ some u) (m n : Stage X) (mark : ℕ)
+-- Each worker did so, with its view. Where one met a mark that the same or another worker set, this hands over what its setter knew.
+pub record HaveCourses {X : Type 0} (r : Run X) (crew : List Worker) (view_at : ℕ → View X) : Type 0 where
+  pub course : (j : ℕ) (w : Worker) → get_elem? crew j ≡ some w → HasCourse r w (view_at j)
+  pub meets : (j l : ℕ) (w u : Worker) (setter : get_elem? crew j ≡ some w) (other : get_elem? crew l ≡ some u) (m n : Stage X) (mark : ℕ)
       → Contains (course j w setter).stages m → Contains (course l u other).stages n
       → m.served.asked.request ≡ Mark mark → n.served.asked.request ≡ Await mark → n.served.answer ≡ Met → HandsOver m n
 
@@ -32,7 +32,7 @@ pub record IsAmong (served : List Served) (line : Served) (earlier : List Served
   pub split : served ≡ earlier then line followed_by later
 
 -- One of these lines met a mark. The worker of the crew that set this had served the other lines before it did so.
-pub record HasMet {X : Type 0} (crew : List (Worker X)) (served marked : List Served) : Type 0 where
+pub record HasMet (crew : List Worker) (served marked : List Served) : Type 0 where
   pub mark : ℕ
   pub met : Served
   pub between : List Served
@@ -40,7 +40,7 @@ pub record HasMet {X : Type 0} (crew : List (Worker X)) (served marked : List Se
   pub asked : met.asked.request ≡ Await mark
   pub meets : met.answer ≡ Met
   pub j : ℕ
-  pub worker : Worker X
+  pub worker : Worker
   pub at : get_elem? crew j ≡ some worker
   pub setter : Served
   pub sets : IsAmong worker.served setter marked
@@ -48,7 +48,7 @@ pub record HasMet {X : Type 0} (crew : List (Worker X)) (served marked : List Se
 
 -- A worker that had served these lines knew of the line s, which has `earlier` before it: s is one of them, or the worker had met a mark
 -- whose setter knew of s when it set it.
-pub data KnewOf {X : Type 0} (crew : List (Worker X)) : List Served → Served → List Served → Type 0 where
+pub data KnewOf (crew : List Worker) : List Served → Served → List Served → Type 0 where
   own : {served earlier : List Served} {s : Served} → IsAmong served s earlier → KnewOf crew served s earlier
   told : {served marked earlier : List Served} {s : Served} → HasMet crew served marked → KnewOf crew marked s earlier
       → KnewOf crew served s earlier

@@ -11,7 +11,7 @@ use Rattle.line_account.specs.Printed.{Finds, GivenBackIn, HadEntry}
 use Rattle.lock_word.specs.declared.stage.Stage.TheVariants.{Appending, Closed, Empty, Freeing, Halted, Taken}
 use Rattle.line_account.specs.EpochNames.{IsAtStage, IsDoomed, IsFromStage, IsUndoomed, IsUpToStage}
 
-module _ {X : Type 0} (r : Run X) (crew : List (Worker X)) where
+module _ {X : Type 0} (r : Run X) (crew : List Worker) where
   pub record EpochsHaveCauses : Type 0 where
     -- An epoch with a version of the opening is one of its anchor's entry of then, and not at TAKEN, APPENDING or HALTED:
     pub old : (a e : ℕ) → ShownIn r crew a e → version_of e ≤ opening_counter r.setting

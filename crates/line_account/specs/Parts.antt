@@ -12,12 +12,12 @@ use Rattle.line_account.specs.Courses.{Begins, Course, Leaves, Stage, lines_in}
 use Rattle.line_account.specs.Closing.{Worker}
 use Rattle.line_account.specs.ScriptOrder.{◌then◌}
 
--- the course of a worker, from its beginning to its end
-pub record IsCourseOf {X : Type 0} (r : Run X) (w : Worker X) (start : View X) (stages : List (Stage X)) : Type 0 where
+-- the course of a worker, from its view at the beginning to the one at its end
+pub record IsCourseOf {X : Type 0} (r : Run X) (w : Worker) (start : View X) (stages : List (Stage X)) (end : View X) : Type 0 where
   pub begins : Begins r start
   pub last : View X
   pub course : Course r start stages last
-  pub leaves : Leaves r last (lines_in stages) w.view
+  pub leaves : Leaves r last (lines_in stages) end
   pub lines : lines_in stages ≡ w.served
 
 -- a line printed PART of the version x

@@ -32,7 +32,7 @@ pub record PrintsKey (anchors : ℕ) (earlier : List Served) (s : Served) (a : �
   pub at : IsAt anchors earlier s a
   pub printed : Refuses s.answer (OtherKey epoch key)
 
-abbrev pub KeyIn : {X : Type 0} → Run X → List (Worker X) → (a : ℕ) → Epoch → List ℕ → Type 0
+abbrev pub KeyIn : {X : Type 0} → Run X → List Worker → (a : ℕ) → Epoch → List ℕ → Type 0
 KeyIn r crew a epoch key = LineIn crew (λ earlier s. PrintsKey r.setting.anchors earlier s a epoch key)
 
 -- the entry that the anchor a had at the opening is that of this URL
@@ -41,7 +41,7 @@ pub record IsOldUrl {X : Type 0} (r : Run X) (a : ℕ) (url : List ℕ) : Type 0
   pub back : word_in r.setting r.setting.words (Beside Key1 a) ≡ back_half (key_of url)
 
 -- it is the key of the URL of the line that began the version x at the anchor a
-pub record IsKeyOfLine {X : Type 0} (r : Run X) (crew : List (Worker X)) (a x : ℕ) (key : List ℕ) : Type 0 where
+pub record IsKeyOfLine {X : Type 0} (r : Run X) (crew : List Worker) (a x : ℕ) (key : List ℕ) : Type 0 where
   pub begun : BegunIn r crew a x
   pub url : List ℕ
   pub url_is : url_in begun.served.asked.request ≡ Some url
@@ -61,18 +61,18 @@ pub record PrintsHit (anchors : ℕ) (s : Served) (a x : ℕ) (url bytes : List 
   pub anchor : a ≡ anchor_of (key_of url) anchors
   pub printed : s.answer ≡ answer.Hit x bytes
 
-abbrev pub HitIn : {X : Type 0} → Run X → List (Worker X) → (a x : ℕ) → (url bytes : List ℕ) → Type 0
+abbrev pub HitIn : {X : Type 0} → Run X → List Worker → (a x : ℕ) → (url bytes : List ℕ) → Type 0
 HitIn r crew a x url bytes = LineIn crew (λ earlier s. PrintsHit r.setting.anchors s a x url bytes)
 
 -- the bytes are the body that the line which began the version x at the anchor a offers under this URL
-pub record IsBodyOfLine {X : Type 0} (r : Run X) (crew : List (Worker X)) (a x : ℕ) (url bytes : List ℕ) : Type 0 where
+pub record IsBodyOfLine {X : Type 0} (r : Run X) (crew : List Worker) (a x : ℕ) (url bytes : List ℕ) : Type 0 where
   pub begun : BegunIn r crew a x
   pub body : Body
   pub offers : Offers begun.served.asked.request url body
   pub whole : bytes ≡ bytes_of body
 
 -- they are the body that a line offers under this URL which printed that it began the version x at the anchor a
-pub record IsBodyAsPrinted {X : Type 0} (r : Run X) (crew : List (Worker X)) (a x : ℕ) (url bytes : List ℕ) : Type 0 where
+pub record IsBodyAsPrinted {X : Type 0} (r : Run X) (crew : List Worker) (a x : ℕ) (url bytes : List ℕ) : Type 0 where
   pub begun : TellsBegunIn r crew a x
   pub body : Body
   pub offers : Offers begun.served.asked.request url body
@@ -92,7 +92,7 @@ pub record IsOldBody {X : Type 0} (r : Run X) (a : ℕ) (url bytes : List ℕ) :
 
 -- a URL of the entry that the anchor of this URL had at the opening, or of a line that began a version there, is another one with the
 -- same key
-pub record IsOtherUrl {X : Type 0} (r : Run X) (crew : List (Worker X)) (url other : List ℕ) : Type 0 where
+pub record IsOtherUrl {X : Type 0} (r : Run X) (crew : List Worker) (url other : List ℕ) : Type 0 where
   pub same_key : key_of other ≡ key_of url
   pub differs : other ≢ url
   pub source : (HadEntry r (anchor_of (key_of url) r.setting.anchors)
@@ -100,7 +100,7 @@ pub record IsOtherUrl {X : Type 0} (r : Run X) (crew : List (Worker X)) (url oth
       ⊎ ((x : ℕ) × (p : BegunIn r crew (anchor_of (key_of url) r.setting.anchors) x) × (url_in p.served.asked.request ≡ Some other))
 
 -- some URL is such a one
-pub record HasOtherUrl {X : Type 0} (r : Run X) (crew : List (Worker X)) (url : List ℕ) : Type 0 where
+pub record HasOtherUrl {X : Type 0} (r : Run X) (crew : List Worker) (url : List ℕ) : Type 0 where
   pub other : List ℕ
   pub is : IsOtherUrl r crew url other
 
@@ -149,7 +149,7 @@ pub record PrintsReaders (anchors : ℕ) (earlier : List Served) (s : Served) (a
   pub more : (readers_at anchors earlier a < looked.readers) ⊎ (readers_at anchors earlier a < other.readers)
 
 -- another worker than the one numbered j opens, gets or purges a URL of the anchor a
-pub record AnotherComes {X : Type 0} (r : Run X) (crew : List (Worker X)) (j a : ℕ) : Type 0 where
+pub record AnotherComes {X : Type 0} (r : Run X) (crew : List Worker) (j a : ℕ) : Type 0 where
   pub comes : LineIn crew (λ earlier s. ComesTo r.setting.anchors s.asked.request a)
   pub another : comes.j ≢ j
 
@@ -182,11 +182,11 @@ pub record PrintsAdded (earlier : List Served) (s : Served) (first : Served) (ta
   pub begun_is : writing tab earlier ≡ Some first
 
 -- the version x at the anchor a was whole: its writing printed STORED, or it is the one of the entry that the anchor had at the opening
-abbrev pub WasWhole : {X : Type 0} → Run X → List (Worker X) → (a x : ℕ) → Type 0
+abbrev pub WasWhole : {X : Type 0} → Run X → List Worker → (a x : ℕ) → Type 0
 WasWhole r crew a x = StoredIn r crew a x ⊎ (HadEntry r a × (x ≡ version_of (opening_epoch r.setting a)))
 
 -- the entry of the version x at the anchor a may have given way for a slot
-pub record MayGiveWay {X : Type 0} (r : Run X) (crew : List (Worker X)) (a x : ℕ) : Type 0 where
+pub record MayGiveWay {X : Type 0} (r : Run X) (crew : List Worker) (a x : ℕ) : Type 0 where
   -- the run does not fit
   pub unfit : r.fits ≡ false
   -- some line may have evicted an entry, by its answer
@@ -195,7 +195,7 @@ pub record MayGiveWay {X : Type 0} (r : Run X) (crew : List (Worker X)) (a x : �
   pub whole : WasWhole r crew a x
 
 -- the writing of the version x at the anchor a was halted, or the entry may have given way
-abbrev pub GivenBackIn : {X : Type 0} → Run X → List (Worker X) → (a x : ℕ) → Type 0
+abbrev pub GivenBackIn : {X : Type 0} → Run X → List Worker → (a x : ℕ) → Type 0
 GivenBackIn r crew a x = HaltedIn r crew a x ⊎ MayGiveWay r crew a x
 
 -- Bytes.
@@ -208,12 +208,12 @@ pub record ReadsOf (earlier : List Served) (s : Served) (first : Served) (url : 
   pub some : IsSure s.answer ⊎ (bytes_with earlier s ≢ [])  -- a FAULT that gave nothing may come before a slot was read
 
 -- a body that the anchor of this URL had at the opening under the URL, or that a line which began a version there offers under it
-pub record IsStored {X : Type 0} (r : Run X) (crew : List (Worker X)) (url bytes : List ℕ) : Type 0 where
+pub record IsStored {X : Type 0} (r : Run X) (crew : List Worker) (url bytes : List ℕ) : Type 0 where
   pub source : IsOldBody r (anchor_of (key_of url) r.setting.anchors) url bytes
       ⊎ ((x : ℕ) × IsBodyOfLine r crew (anchor_of (key_of url) r.setting.anchors) x url bytes)
 
 -- the bytes are the first ones of such a body, and all of them where the answer says so
-pub record AreFirstOnes {X : Type 0} (r : Run X) (crew : List (Worker X)) (a : Answer) (url bytes : List ℕ) : Type 0 where
+pub record AreFirstOnes {X : Type 0} (r : Run X) (crew : List Worker) (a : Answer) (url bytes : List ℕ) : Type 0 where
   pub body : List ℕ
   pub stored : IsStored r crew url body
   pub first_ones : bytes ≡ take (length bytes) body
@@ -230,7 +230,7 @@ pub record Ends (anchors : ℕ) (earlier : List Served) (s : Served) (a x : ℕ)
   pub writes : Writes anchors earlier s a x
   pub printed : PrintsFinished s x
 
-abbrev pub FinishedIn : {X : Type 0} → Run X → List (Worker X) → (a x : ℕ) → Type 0
+abbrev pub FinishedIn : {X : Type 0} → Run X → List Worker → (a x : ℕ) → Type 0
 FinishedIn r crew a x = LineIn crew (λ earlier s. Ends r.setting.anchors earlier s a x)
 
 -- an `end` printed so, on a tab whose writing was begun by a line that printed BEGUN with this version

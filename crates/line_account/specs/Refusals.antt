@@ -24,7 +24,7 @@ use Rattle.line_account.specs.EpochNames.{IsAtStage}
 abbrev pub Any : List Served → Served → Type 0
 Any earlier s = Unit {0}
 
-module _ {X : Type 0} (r : Run X) (script : List Line) (crew : List (Worker X)) where
+module _ {X : Type 0} (r : Run X) (script : List Line) (crew : List Worker) where
   pub record AnswersHaveCauses : Type 0 where
     -- each answer is one that its request may get
     pub possible : (p : LineIn crew Any) → IsAnswerTo p.served.asked.request p.served.answer

@@ -37,27 +37,28 @@ printed_lines (x ∷ earlier) =
 
 module _ {C O St : Type 0} (r : Run (List ℕ)) (script : List Line) (accounts : List (Account (OnShelf C O St))) (h : HasClosing {C = C} {O = O} {St = St} r script accounts) where
   -- a worker of the crew has the course of its place
-  pub record HasPlace (j : ℕ) (w : Worker (List ℕ)) : Type 0 where
+  pub record HasPlace (j : ℕ) (w : Worker) : Type 0 where
     pub course : Played (List ℕ)
     pub at : get_elem? h.courses j ≡ some course
     pub account : Account (OnShelf C O St)
     pub account_at : get_elem? accounts j ≡ some account
     pub is : worker_of course ≡ w
 
-  place : (j : ℕ) (w : Worker (List ℕ)) → get_elem? (crew_of h.courses) j ≡ some w → HasPlace j w
+  place : (j : ℕ) (w : Worker) → get_elem? (crew_of h.courses) j ≡ some w → HasPlace j w
   place j w e =
       let i = image worker_of h.courses j w e in
       let a = beside accounts h.courses j i.item (sym h.count) i.at in
       record { course = i.item; at = i.at; account = a.item; account_at = a.at; is = i.is }
 
-  course_at : (j : ℕ) (w : Worker (List ℕ)) → HasPlace j w → HasCourse r w
+  course_at : (j : ℕ) (w : Worker) → HasPlace j w → HasCourse r w (h.closed.view_at j)
   course_at j w p = record {
     start = p.course.start;
     stages = p.course.stages;
-    is = subst (λ z. IsCourseOf r z p.course.start p.course.stages) p.is ((h.each j p.account p.course p.account_at p.at).is);
+    is = subst (λ v. IsCourseOf r w p.course.start p.course.stages v) (sym (h.views j p.course p.at))
+        (subst (λ z. IsCourseOf r z p.course.start p.course.stages p.course.end) p.is ((h.each j p.account p.course p.account_at p.at).is));
   }
 
-  pub have_courses : HaveCourses r (crew_of h.courses)
+  pub have_courses : HaveCourses r (crew_of h.courses) h.closed.view_at
   unfolding place course_at
   have_courses = record {
     course = λ j w at. course_at j w (place j w at);

@@ -45,7 +45,7 @@ module _ (r : Run (List ℕ)) (slot anchors : ℕ) (images : List (List ℕ)) wh
       (λ (h : HadNothing r slot anchors images a). absurd (let none : stage_of (opening_epoch r.setting a) ≡ 0 = ap stage_of h.epoch in omega arith))
       (began.each a small)
 
-  module _ (script : List Line) (crew : List (Worker (List ℕ))) (rules : KeepsRules r script crew) (serves : ServesScript script crew) (same : r.setting.anchors ≡ anchors) (some : 0 < anchors)
+  module _ (script : List Line) (crew : List Worker) (rules : KeepsRules r script crew) (serves : ServesScript script crew) (same : r.setting.anchors ≡ anchors) (some : 0 < anchors)
       (kept : (a : ℕ) → a < anchors → HadEntry r a → OldWinner a) where
     below : (url : List ℕ) (a : ℕ) → a ≡ anchor_of (key_of url) r.setting.anchors → a < anchors
     below url a e = subst (λ n. n < anchors) (sym (e ∙ ap (λ n. anchor_of (key_of url) n) same)) (anchor_below (key_of url) anchors some)

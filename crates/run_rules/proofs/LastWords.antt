@@ -57,26 +57,26 @@ seen_below a e (x ∷ xs) h = ⊎_elim
     (λ (q : Contains xs (Stood a e)). let r = seen_below a e xs q in omega arith)
     (cons_contains x (Stood a e) xs h)
 
-module _ {X : Type 0} (r : Run X) (crew : List (Worker X)) (s : State X) (sound : Sound r.setting s) where
+module _ {X : Type 0} (r : Run X) (crew : List Worker) (view_at : ℕ → View X) (s : State X) (sound : Sound r.setting s) where
   -- the worker with a view of the state
   pub record HasWorker (u : View X) : Type 0 where
     pub j : ℕ
-    pub worker : Worker X
+    pub worker : Worker
     pub at : get_elem? crew j ≡ some worker
-    pub view_is : worker.view ≡ u
+    pub view_is : view_at j ≡ u
 
   -- The views of the workers stand in the state, and no other view has tabs. Each worker has its account, and nothing is left to do for a word.
   pub record StandIn : Type 0 where
-    pub stands : (j : ℕ) (w : Worker X) → get_elem? crew j ≡ some w → (i : ℕ) × (get_elem? s.views i ≡ some w.view)
+    pub stands : (j : ℕ) (w : Worker) → get_elem? crew j ≡ some w → (i : ℕ) × (get_elem? s.views i ≡ some (view_at j))
     pub worker : (i : ℕ) (u : View X) → get_elem? s.views i ≡ some u → u.tabs ≢ [] → HasWorker u
-    pub accounts : (j : ℕ) (w : Worker X) → get_elem? crew j ≡ some w → Account r w.view w.served true
+    pub accounts : (j : ℕ) (w : Worker) → get_elem? crew j ≡ some w → Account r (view_at j) w.served true
     pub finished : (a : ℕ) → a < r.setting.anchors → IsFinished (word s a)
 
   module _ (c : StandIn) where
     -- a worker at its end, of whose lines R holds
     record AtEnd (R : List Served → Type 0) : Type 0 where
       j : ℕ
-      worker : Worker X
+      worker : Worker
       at : get_elem? crew j ≡ some worker
       so : R worker.served
 
@@ -87,9 +87,9 @@ module _ {X : Type 0} (r : Run X) (crew : List (Worker X)) (s : State X) (sound 
         → IsDone s P → LineIn crew Q ⊎ AtEnd R
     by_cause P Q R of_line of_end done =
         let w = c.worker done.i done.view done.at (deeds_have_tabs r.setting s done.i done.view done.deed sound.anchors.shaped done.at done.done) in
-        let own : Contains w.worker.view.deeds done.deed = subst (λ (v : View X). Contains v.deeds done.deed) (sym w.view_is) done.done in
+        let own : Contains (view_at w.j).deeds done.deed = subst (λ (v : View X). Contains v.deeds done.deed) (sym w.view_is) done.done in
         ⊎_elim
-        (λ (l : LineOf w.worker.served (IsDeedOf r w.worker.view done.deed)). inl record {
+        (λ (l : LineOf w.worker.served (IsDeedOf r (view_at w.j) done.deed)). inl record {
           j = w.j;
           worker = w.worker;
           at = w.at;
@@ -97,7 +97,7 @@ module _ {X : Type 0} (r : Run X) (crew : List (Worker X)) (s : State X) (sound 
           served = l.served;
           earlier = l.earlier;
           split = l.split;
-          so = of_line w.worker.view done.deed l.earlier l.served done.so l.so;
+          so = of_line (view_at w.j) done.deed l.earlier l.served done.so l.so;
         })
         (λ (l : (true ≡ true) × IsDeedOfEnd r.setting done.deed w.worker.served). inr record { j = w.j; worker = w.worker; at = w.at; so = of_end done.deed w.worker.served done.so l.1 })
         ((c.accounts w.j w.worker w.at).deeds done.deed own).1
@@ -193,14 +193,14 @@ module _ {X : Type 0} (r : Run X) (crew : List (Worker X)) (s : State X) (sound 
       latest = λ a f p.
           let w = c.stands p.j p.worker p.at in
           let seen = ((c.accounts p.j p.worker p.at).lines p.later p.earlier p.served p.split).shown a f p.so in
-          let lt = sound.anchors.seen.inside w.0 p.worker.view w.1 (Stood a f) seen in
-          let below = seen_below a f p.worker.view.seen seen in
-          let most = sound.anchors.seen.epochs w.0 p.worker.view w.1 a lt in
+          let lt = sound.anchors.seen.inside w.0 (view_at p.j) w.1 (Stood a f) seen in
+          let below = seen_below a f (view_at p.j).seen seen in
+          let most = sound.anchors.seen.epochs w.0 (view_at p.j) w.1 a lt in
           omega arith;
       leads = λ a f p same.
           let w = c.stands p.j p.worker p.at in
           let seen = ((c.accounts p.j p.worker p.at).lines p.later p.earlier p.served p.split).shown a f p.so in
-          sound.sights.stages w.0 p.worker.view w.1 a f (sound.anchors.seen.inside w.0 p.worker.view w.1 (Stood a f) seen) seen same;
+          sound.sights.stages w.0 (view_at p.j) w.1 a f (sound.anchors.seen.inside w.0 (view_at p.j) w.1 (Stood a f) seen) seen same;
       old = λ a lt low. old_one a lt low;
       new = λ a lt high. begun a (version_of (epoch_of (word s a))) (known_taken r.setting s sound a (epoch_of (word s a)) (stands_there a lt) high);
       stored = λ a lt high three. stored a (version_of (epoch_of (word s a))) (known_closed r.setting s sound a (epoch_of (word s a)) (stands_there a lt) high three ((c.finished a lt).closed three));
@@ -225,7 +225,7 @@ module _ {C St : Type 0} (volume_tells told : Bool) (state : C → CellState) (f
   abbrev closing : HasClosing {C = C} {O = List Line} {St = St} run script accounts
   closing = laws.closes laws.past.past laws.past.told
 
-  abbrev crew : List (Worker (List ℕ))
+  abbrev crew : List Worker
   crew = crew_of closing.courses
 
   abbrev views : List (View (List ℕ))
@@ -243,12 +243,12 @@ module _ {C St : Type 0} (volume_tells told : Bool) (state : C → CellState) (f
       ∙ sym (length-map h.closed.left (λ (p : Pass C). view p))
 
   -- a worker of the crew, with its account and the view with which its pass was left
-  record HasView (j : ℕ) (w : Worker (List ℕ)) : Type 0 where
+  record HasView (j : ℕ) (w : Worker) : Type 0 where
     account : PlayedBy (OnShelf C (List Line) St)
     at : get_elem? views j ≡ some (view account.end.pass)
-    view_is : w.view ≡ view account.end.pass
+    view_is : closing.closed.view_at j ≡ view account.end.pass
 
-  has_view : (j : ℕ) (w : Worker (List ℕ)) → get_elem? crew j ≡ some w → HasView j w
+  has_view : (j : ℕ) (w : Worker) → get_elem? crew j ≡ some w → HasView j w
   has_view j w e =
       let i = image worker_of closing.courses j w e in
       let a = beside accounts closing.courses j i.item (sym closing.count) i.at in
@@ -256,11 +256,11 @@ module _ {C St : Type 0} (volume_tells told : Bool) (state : C → CellState) (f
       record {
         account = a.item;
         at = view_there volume_tells told state faults files left name slot anchors workers script answers before after h j a.item a.at;
-        view_is = sym (ap Worker.view i.is) ∙ course.ends;
+        view_is = closing.views j i.item i.at ∙ course.ends;
       }
 
   -- the worker at a place of the row of passes
-  at_pass : (j i : ℕ) (u : View (List ℕ)) → j < length views → h.closed.closed.gathered.index j ≡ i → get_elem? last.views i ≡ some u → HasWorker run crew last h.closed.closed.gathered.rule.sound u
+  at_pass : (j i : ℕ) (u : View (List ℕ)) → j < length views → h.closed.closed.gathered.index j ≡ i → get_elem? last.views i ≡ some u → HasWorker run crew closing.closed.view_at last h.closed.closed.gathered.rule.sound u
   at_pass j i u lt same at =
       let a = beside accounts views j (get_or views j u) as_many_views (at_index views j (get_or views j u) u lt refl) in
       let p = beside closing.courses accounts j a.item closing.count a.at in
@@ -270,10 +270,10 @@ module _ {C St : Type 0} (volume_tells told : Bool) (state : C → CellState) (f
         j = j;
         worker = worker_of p.item;
         at = map_at worker_of closing.courses j p.item p.at;
-        view_is = course.ends ∙ some-injective (view a.item.end.pass) u (sym there ∙ ap (get_elem? last.views) same ∙ at);
+        view_is = closing.views j p.item p.at ∙ course.ends ∙ some-injective (view a.item.end.pass) u (sym there ∙ ap (get_elem? last.views) same ∙ at);
       }
 
-  stand_in : ((a : ℕ) → a < g.setting.anchors → IsFinished (word last a)) → StandIn run crew last h.closed.closed.gathered.rule.sound
+  stand_in : ((a : ℕ) → a < g.setting.anchors → IsFinished (word last a)) → StandIn run crew closing.closed.view_at last h.closed.closed.gathered.rule.sound
   stand_in finished = record {
     stands = λ j w e. let v = has_view j w e in (
       h.closed.closed.gathered.index j,
@@ -292,4 +292,4 @@ module _ {C St : Type 0} (volume_tells told : Bool) (state : C → CellState) (f
       → AreLastWords (explained volume_tells told state faults files left name slot anchors workers script answers before after h laws).run
       (explained volume_tells told state faults files left name slot anchors workers script answers before after h laws).crew (word last)
   unfolding explained
-  words_are finished = last_words run crew last h.closed.closed.gathered.rule.sound (stand_in finished)
+  words_are finished = last_words run crew closing.closed.view_at last h.closed.closed.gathered.rule.sound (stand_in finished)

@@ -109,7 +109,7 @@ module _ {C St : Type 0} (volume_tells told : Bool) (state : C → CellState) (f
     pub opening : OpenedAsKept told state g slot anchors h.closed.opened.cells
     pub one : OneWinner
     pub closes : (past : Past) → IsTold g told past told → HasClosing {C = C} {O = List Line} {St = St} (run_of g told past) script accounts
-    pub keeps : (r : Run (List ℕ)) (crew : List (Worker (List ℕ))) → ClosedCrew r crew → ServesScript script crew → HaveCourses r crew → KeepsRules r script crew
+    pub keeps : (r : Run (List ℕ)) (crew : List Worker) → (c : ClosedCrew r crew) → ServesScript script crew → HaveCourses r crew c.view_at → KeepsRules r script crew
     pub counts : (a : Account (OnShelf C (List Line) St)) → HasSteps told state offers_of faults a → min (faults a.start.station + fault_answers a) (2 ^ 64 - 1) ≤ faults a.end.station
 
   module _ (laws : Laws) where
@@ -119,7 +119,7 @@ module _ {C St : Type 0} (volume_tells told : Bool) (state : C → CellState) (f
     abbrev closing : HasClosing {C = C} {O = List Line} {St = St} r script accounts
     closing = laws.closes laws.past.past laws.past.told
 
-    abbrev crew : List (Worker (List ℕ))
+    abbrev crew : List Worker
     crew = crew_of closing.courses
 
     pub rules : KeepsRules r script crew

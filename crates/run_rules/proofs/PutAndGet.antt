@@ -70,7 +70,7 @@ two_lines g p (y ∷ []) earlier s e = inr (cc, cc)
 two_lines g p (y ∷ z ∷ []) earlier s e = absurd (let n : [] ≡ s ∷ earlier = cc in cc)
 two_lines g p (y ∷ z ∷ v ∷ later) earlier s e = absurd (let n : [] ≡ v ∷ (later ++ s ∷ earlier) = cc in cc)
 
-module _ {X : Type 0} (r : Run X) (url : List ℕ) (m : MayBegin r url) (w : Worker X) (is : w.served ≡ put_and_get r url) where
+module _ {X : Type 0} (r : Run X) (url : List ℕ) (m : MayBegin r url) (w : Worker) (is : w.served ≡ put_and_get r url) where
   abbrev x : ℕ
   x = next_version r
 
@@ -83,7 +83,7 @@ module _ {X : Type 0} (r : Run X) (url : List ℕ) (m : MayBegin r url) (w : Wor
   abbrev a : ℕ
   a = home r url
 
-  abbrev crew : List (Worker X)
+  abbrev crew : List Worker
   crew = alone w
 
   version : version_of (epoch_at x 3) ≡ x
@@ -99,7 +99,7 @@ module _ {X : Type 0} (r : Run X) (url : List ℕ) (m : MayBegin r url) (w : Wor
   two : (later earlier : List Served) (s : Served) → get ∷ put ∷ [] ≡ later ++ s ∷ earlier → IsLine earlier s
   two later earlier s e = two_lines get put later earlier s e
 
-  only : (j : ℕ) (v : Worker X) → get_elem? crew j ≡ some v → (j ≡ 0) × (v.served ≡ get ∷ put ∷ [])
+  only : (j : ℕ) (v : Worker) → get_elem? crew j ≡ some v → (j ≡ 0) × (v.served ≡ get ∷ put ∷ [])
   only zero v e = (refl, sym (ap Worker.served (some-injective w v e)) ∙ is)
   only (suc j) v e = absurd (some-ne-none v (sym e))
 
@@ -116,7 +116,7 @@ module _ {X : Type 0} (r : Run X) (url : List ℕ) (m : MayBegin r url) (w : Wor
   never : (P : List Served → Served → Type 0) → (P (put ∷ []) get → ⊥) → (P [] put → ⊥) → LineIn crew P → ⊥
   never P of_get of_put p = by_line P (λ earlier s. ⊥) of_get of_put p
 
-  among : (j : ℕ) (v : Worker X) → get_elem? crew j ≡ some v → (s : Served) (earlier : List Served) → IsAmong v.served s earlier → IsLine earlier s
+  among : (j : ℕ) (v : Worker) → get_elem? crew j ≡ some v → (s : Served) (earlier : List Served) → IsAmong v.served s earlier → IsLine earlier s
   among j v at s earlier h = two h.later earlier s (sym (only j v at).1 ∙ h.split)
 
   -- the `put` as one of the lines

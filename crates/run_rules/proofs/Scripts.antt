@@ -44,7 +44,7 @@ among (y ∷ served) [] earlier s e = let here : y ≡ s = cc in
 among (y ∷ served) (x ∷ later) earlier s e = in_front s.asked (in_order served) (y.asked ∷ []) (among served later earlier s cc)
 
 -- a line of a worker is one of the script
-pub in_script : {X : Type 0} (script : List Line) (crew : List (Worker X)) (P : List Served → Served → Type 0) → ServesScript script crew → (p : LineIn crew P) → Contains script p.served.asked
+pub in_script : (script : List Line) (crew : List Worker) (P : List Served → Served → Type 0) → ServesScript script crew → (p : LineIn crew P) → Contains script p.served.asked
 in_script script crew P serves p = of_filter (λ l. l.worker == p.j + 1) script p.served.asked
     (subst (λ ls. Contains ls p.served.asked) (serves p.j p.worker p.at) (among p.worker.served p.later p.earlier p.served p.split))
 
@@ -56,7 +56,7 @@ offer_of (Begin tab u b) url is named = (b, (cc, refl))
 offer_of _ url is named = absurd cc
 
 -- so the script offers it
-pub offered : {X : Type 0} (script : List Line) (crew : List (Worker X)) (P : List Served → Served → Type 0) → ServesScript script crew → (p : LineIn crew P) → (url : List ℕ) (body : Body)
+pub offered : (script : List Line) (crew : List Worker) (P : List Served → Served → Type 0) → ServesScript script crew → (p : LineIn crew P) → (url : List ℕ) (body : Body)
     → Offers p.served.asked.request url body → IsOffered script url (bytes_of body)
 offered script crew P serves p url body offers = record {
   line = p.served.asked;

@@ -29,7 +29,7 @@ use Rattle.run_rules.specs.Runs.{printed_by}
 use Rattle.run_rules.proofs.Files.{anchor_below}
 use Rattle.run_rules.proofs.Lists.{image}
 
-module _ {X : Type 0} (r : Run X) (slot anchors : ℕ) (images : List (List ℕ)) (script : List Line) (crew : List (Worker X)) (rules : KeepsRules r script crew) (began : BeganWithFile r slot anchors images)
+module _ {X : Type 0} (r : Run X) (slot anchors : ℕ) (images : List (List ℕ)) (script : List Line) (crew : List Worker) (rules : KeepsRules r script crew) (began : BeganWithFile r slot anchors images)
     (same : r.setting.anchors ≡ anchors) (some_anchor : 0 < anchors) where
   -- a winner has a version above 0
   above : (a : ℕ) (h : HadWinner r slot anchors images a) → 0 < version_of (opening_epoch r.setting a)
@@ -68,12 +68,12 @@ one_line (s ∷ t ∷ rest) n a e =
     absurd (omega arith)
 
 -- No `put` of a lone worker is refused by an epoch of version 0 that is not at EMPTY.
-module _ {X : Type 0} (r : Run X) (crew : List (Worker X)) (zero : (a e : ℕ) → ShownIn r crew a e → version_of e ≡ 0 → (stage_of e ≡ 0) × (doom_of e ≡ 0)) (url : List ℕ) (body : Body) (held : Word)
+module _ {X : Type 0} (r : Run X) (crew : List Worker) (zero : (a e : ℕ) → ShownIn r crew a e → version_of e ≡ 0 → (stage_of e ≡ 0) × (doom_of e ≡ 0)) (url : List ℕ) (body : Body) (held : Word)
     (serves : ServesScript (record { worker = 1; number = 1; request = Put url body } ∷ []) crew) (printed : map (λ w. printed_by w.served) crew ≡ ((1, answer.Busy held held) ∷ []) ∷ [])
     (of : held.epoch ≡ record { version = 0; stage = stage.Freeing; doom = false }) where
   pub never_zero : ⊥
   never_zero =
-      let w = image (λ (w : Worker X). printed_by w.served) crew 0 ((1, answer.Busy held held) ∷ []) (ap (λ (l : List (List (ℕ × Answer))). get_elem? l 0) printed) in
+      let w = image (λ (w : Worker). printed_by w.served) crew 0 ((1, answer.Busy held held) ∷ []) (ap (λ (l : List (List (ℕ × Answer))). get_elem? l 0) printed) in
       let l = one_line w.item.served 1 (answer.Busy held held) w.is in
       let line : Line = record { worker = 1; number = 1; request = Put url body } in
       let lines : l.served.asked ∷ [] ≡ line ∷ [] = sym (ap in_order l.is) ∙ serves 0 w.item w.at in

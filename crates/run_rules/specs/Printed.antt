@@ -15,7 +15,7 @@ use Rattle.line_account.specs.Printed.{Finds, HitIn, KeyIn, PrintsOther, ReadsOf
 use Rattle.line_account.specs.Tabs.{ReadsOn}
 use Rattle.run_rules.specs.Responses.{HasTwin, IsFrontOf, IsResponse}
 
-module _ {X : Type 0} (r : Run X) (slot anchors : ℕ) (images : List (List ℕ)) (script : List Line) (crew : List (Worker X)) where
+module _ {X : Type 0} (r : Run X) (slot anchors : ℕ) (images : List (List ℕ)) (script : List Line) (crew : List Worker) where
   -- the winner of an anchor, whose URL and body these are
   pub record IsOfWinner (a : ℕ) (url body : List ℕ) : Type 0 where
     pub entry : Entry

@@ -60,7 +60,7 @@ pub record IsExplained (tells : Bool) (files : Files) (name : List ℕ) (slot an
   -- what the store was opened over
   pub run : Run (List ℕ)
   -- what each worker served, in order of the workers
-  pub crew : List (Worker (List ℕ))
+  pub crew : List Worker
   -- the images of the slots of the file
   pub images : List (List ℕ)
   -- the store was opened over the file
