@@ -20,6 +20,7 @@ use Rattle.line_account.specs.ScriptOrder.{◌followed_by◌, ◌then◌}
 
 -- a worker, by the lines that it served
 pub record Worker : Type 0 where
+  -- in the order of the script, as `then` writes lists of lines
   pub served : List Served
 
 -- An entry that was halted was never whole: where a version was seen at HALTED, a number of its slots were seen published, and the offer of
@@ -48,19 +49,29 @@ pub record Closed {X : Type 0} (r : Run X) (crew : List Worker) : Type 0 where
 
 -- a line of one of the workers, of which P holds, given the lines of the same worker before it
 pub record LineIn (crew : List Worker) (P : List Served → Served → Type 0) : Type 0 where
+  -- the number of a worker, from 0 on
   pub j : ℕ
+  -- the worker
   pub worker : Worker
+  -- which has this number
   pub at : get_elem? crew j ≡ some worker
+  -- the lines that it served before
   pub earlier : List Served
+  -- the line
   pub served : Served
+  -- the lines behind it
   pub later : List Served
+  -- these are all its lines
   pub split : worker.served ≡ earlier then served followed_by later
+  -- P holds of the line
   pub so : P earlier served
 
 -- they are lines of the same worker, with as many lines before them
 pub record IsSameLine (crew : List Worker) (P Q : List Served → Served → Type 0) (p : LineIn crew P) (q : LineIn crew Q)
     : Type 0 where
+  -- of one worker
   pub worker : p.j ≡ q.j
+  -- with as many lines before them
   pub place : length p.earlier ≡ length q.earlier
 
 -- how many of the lines offer a body
@@ -84,7 +95,9 @@ ShownIn r crew a e = LineIn crew (λ earlier s. Shows r.setting.anchors earlier 
 
 -- a line that writes the version x at the anchor a printed that it is stored
 pub record Stores (anchors : ℕ) (earlier : List Served) (s : Served) (a x : ℕ) : Type 0 where
+  -- the line writes the version there
   pub writes : Writes anchors earlier s a x
+  -- it printed STORED with it
   pub printed : s.answer ≡ answer.Stored x
 
 abbrev pub StoredIn : {X : Type 0} → Run X → List Worker → (a x : ℕ) → Type 0
@@ -92,9 +105,13 @@ StoredIn r crew a x = LineIn crew (λ earlier s. Stores r.setting.anchors earlie
 
 -- a worker still wrote the version x at the anchor a when it came to its end
 pub record HaltedAtEnd {X : Type 0} (r : Run X) (crew : List Worker) (a x : ℕ) : Type 0 where
+  -- the number of a worker, from 0 on
   pub j : ℕ
+  -- the worker
   pub worker : Worker
+  -- which has this number
   pub at : get_elem? crew j ≡ some worker
+  -- a tab of it still writes the version behind its last line
   pub writing : IsWriting r.setting.anchors worker.served a x
 
 -- the writing of the version x at the anchor a was halted, by a line or by the end
@@ -103,8 +120,11 @@ HaltedIn r crew a x = LineIn crew (λ earlier s. Halts r.setting.anchors earlier
 
 -- a line purged the version x at the anchor a
 pub record PurgesVersion (anchors : ℕ) (s : Served) (a x : ℕ) : Type 0 where
+  -- an epoch
   pub epoch : ℕ
+  -- that the line left doomed
   pub purges : Purges anchors s a epoch
+  -- of this version
   pub version_is : version_of epoch ≡ x
 
 abbrev pub PurgedIn : {X : Type 0} → Run X → List Worker → (a x : ℕ) → Type 0
@@ -112,16 +132,23 @@ PurgedIn r crew a x = LineIn crew (λ earlier s. PurgesVersion r.setting.anchors
 
 -- a line at the anchor a printed HALTED
 pub record PrintsHalted (anchors : ℕ) (earlier : List Served) (s : Served) (a : ℕ) : Type 0 where
+  -- the line is at work there
   pub at : IsAt anchors earlier s a
+  -- with these bytes
   pub bytes : List ℕ
+  -- it printed HALTED
   pub printed : s.answer ≡ answer.Halted bytes
 
 -- a line at the anchor a printed DOOMED with the version x
 pub record PrintsDoomed (anchors : ℕ) (earlier : List Served) (s : Served) (a x : ℕ) : Type 0 where
+  -- the line is at work there
   pub at : IsAt anchors earlier s a
+  -- it printed DOOMED with the version
   pub printed : s.answer ≡ answer.Doomed x
 
 -- some version at the anchor a was halted
 pub record SomeHalted {X : Type 0} (r : Run X) (crew : List Worker) (a : ℕ) : Type 0 where
+  -- a version
   pub version : ℕ
+  -- whose writing there was halted
   pub halted : HaltedIn r crew a version

@@ -28,22 +28,36 @@ pub record HaveCourses {X : Type 0} (r : Run X) (crew : List Worker) (view_at : 
 
 -- the line is among these, with those before it
 pub record IsAmong (served : List Served) (line : Served) (earlier : List Served) : Type 0 where
+  -- the lines behind it
   pub later : List Served
+  -- these are all of the lines
   pub split : served ≡ earlier then line followed_by later
 
 -- One of these lines met a mark. The worker of the crew that set this had served the other lines before it did so.
 pub record HasMet (crew : List Worker) (served marked : List Served) : Type 0 where
+  -- the number of the mark
   pub mark : ℕ
+  -- the line that met it
   pub met : Served
+  -- the lines before that line
   pub between : List Served
+  -- it is one of these
   pub awaits : IsAmong served met between
+  -- it asked for the mark
   pub asked : met.asked.request ≡ Await mark
+  -- and was answered MET
   pub meets : met.answer ≡ Met
+  -- the number of another worker, or of the same
   pub j : ℕ
+  -- that worker
   pub worker : Worker
+  -- which has this number
   pub at : get_elem? crew j ≡ some worker
+  -- its line that set the mark
   pub setter : Served
+  -- with these lines before it
   pub sets : IsAmong worker.served setter marked
+  -- it asked to set the mark
   pub set : setter.asked.request ≡ Mark mark
 
 -- A worker that had served these lines knew of the line s, which has `earlier` before it: s is one of them, or the worker had met a mark

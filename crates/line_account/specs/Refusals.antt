@@ -14,7 +14,8 @@ use Rattle.line_account.specs.Answers.{IsCauseOf, IsLong, Refuses, Run}
 use Rattle.line_account.specs.Closing.{LineIn, Worker}
 use Rattle.line_account.specs.Lines.{Fits, Offers, Served, added}
 use Rattle.line_account.specs.Order.{FindsEntry}
-use Rattle.line_account.specs.Printed.{AnotherComes, EndsBegun, HasBusyWords, HasOtherUrl, NeedsTooMany, PrintsAdded, PrintsEnded, PrintsLarge, PrintsOther, PrintsReaders}
+use Rattle.line_account.specs.Printed.{AnotherComes, EndsBegun, HasBusyWords, HasOtherUrl, NeedsTooMany, PrintsAdded, PrintsEnded}
+use Rattle.line_account.specs.Printed.{PrintsLarge, PrintsOther, PrintsReaders}
 use Rattle.line_account.specs.Requests.{IsAnswerTo}
 use Rattle.line_account.specs.Scripts.{offering}
 use Rattle.lock_word.specs.declared.stage.Stage.TheVariants.{Appending}

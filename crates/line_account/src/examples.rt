@@ -37,8 +37,8 @@ pub fn a_lone_version_is_the_next_one<X>()
 
 /// A hit of the URL behind it has this version too, and the body that the line offers, and no other.
 pub fn a_hit_has_what_was_stored<X>()
-    ensures { (r : Run X) (w : Worker) (start end : View X) (p g : Stage X) (url bytes : List ℕ) (body : Body) (x y : ℕ) → Closed r (alone w)
-        → IsTrue r.tells
+    ensures { (r : Run X) (w : Worker) (start end : View X) (p g : Stage X) (url bytes : List ℕ) (body : Body) (x y : ℕ)
+        → Closed r (alone w) → IsTrue r.tells
         → IsCourseOf r w start ([] then p then g) end → p.served.asked.request ≡ Request.Put url body → p.served.answer ≡ Answer.Stored x
         → g.served.asked.request ≡ Request.Get url → g.served.answer ≡ Answer.Hit y bytes
         → (x ≡ next_version r) × (y ≡ next_version r) × (bytes ≡ bytes_of body) }
