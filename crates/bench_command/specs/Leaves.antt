@@ -24,7 +24,9 @@ module _ (volume_tells : Bool) where
 
     -- All lines were served, with these counts of the volume before and after, and answered so.
     pub record RunServed (counted counted_after : Counts) : Type 0 where
+      -- The answers, a list for each worker.
       pub answers : List (List (ℕ × Answer))
+      -- The lines were served over the file, and answered so.
       pub served : WasServed volume_tells before after name slot_size (anchors_for workers) workers lines answers counted counted_after
 
     -- What running the lines over the file leaves.
@@ -38,8 +40,11 @@ module _ (volume_tells : Bool) where
   module _ (before after : Files) (name : List ℕ) (workers : ℕ) (lines : List Line) (counted counted_after : Counts) where
     -- The file was made, and the run left this of it.
     pub record LeavesMade (status : Status) : Type 0 where
+      -- The files as they were once the new one was made.
       pub middle : Files
+      -- It was made as `create` makes one.
       pub made : IsMade volume_tells before middle name workers
+      -- This is what the run left of it.
       pub left : RunLeaves middle after name workers lines (made_counts counted) counted_after status
 
     -- What each status leaves. A fault of the disk, or want of memory, may come before the file was made.

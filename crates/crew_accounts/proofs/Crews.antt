@@ -1,6 +1,6 @@
 -- The courses of all workers, and their closing.
 use Rattle.std.proofs.Common.{Bool, Contains, List, [], ap, false, length, map, refl, subst, sym, true, ◌+◌, ◌∙◌, ◌∷◌, ◌≡◌, ℕ}
-use Rattle.std.specs.Prelude.{◌==◌}
+use Rattle.std.specs.Prelude.{◌==◌, get_or}
 use Rattle.std.specs.List.{filter}
 use mathlib.Core.Option.{some}
 use lib.ListN.{get_elem?}
@@ -10,6 +10,7 @@ use Rattle.script_text.specs.declared.line.Line.{Line}
 use Rattle.script_text.specs.declared.request.Request.TheVariants.{Await, Mark}
 use Rattle.store_key.specs.Key.{key_of}
 use Rattle.swap_meta.specs.Meta.{meta_bytes}
+use Rattle.core_model.specs.CellMoves.{spent}
 use Rattle.core_model.specs.Opening.{new_view}
 use Rattle.core_model.specs.Tabs.{IsPass}
 use Rattle.core_model.specs.declared.view.View.{View}
@@ -103,20 +104,27 @@ module _ {C O St : Type 0} (tells : Bool) (state : C → CellState) (offers : O 
       abbrev end_of : Account (OnShelf C O St) → View (List ℕ)
       end_of a = view a.end.pass
 
+      -- the view at which the lines of a worker ended
+      abbrev view_at : ℕ → View (List ℕ)
+      view_at j = get_or (map end_of accounts) j spent
+
+      view_of : (j : ℕ) (a : Account (OnShelf C O St)) → get_elem? accounts j ≡ some a → end_of a ≡ view_at j
+      view_of j a e = sym (at_or (map end_of accounts) j (end_of a) spent (image_at end_of accounts j a e))
+
       -- a worker of the crew, with its course and its account
-      pub record IsOne (j : ℕ) (w : Worker (List ℕ)) : Type 0 where
+      pub record IsOne (j : ℕ) (w : Worker) : Type 0 where
         pub account : Account (OnShelf C O St)
         pub at : get_elem? accounts j ≡ some account
         pub course : Played (List ℕ)
         pub done : IsDone j account course
         pub is : worker_of course ≡ w
-        pub view_is : end_of account ≡ w.view
+        pub view_is : end_of account ≡ view_at j
 
-      one : (j : ℕ) (w : Worker (List ℕ)) → get_elem? (crew_of all.items) j ≡ some w → IsOne j w
+      one : (j : ℕ) (w : Worker) → get_elem? (crew_of all.items) j ≡ some w → IsOne j w
       one j w e = let i = image worker_of all.items j w e in let d = all.each j i.item i.at in
-          record { account = d.item; at = d.at; course = i.item; done = d.so; is = i.is; view_is = sym d.so.is.ends ∙ ap Worker.view i.is }
+          record { account = d.item; at = d.at; course = i.item; done = d.so; is = i.is; view_is = view_of j d.item d.at }
 
-      stands : (j : ℕ) (w : Worker (List ℕ)) → IsOne j w → get_elem? (map end_of accounts) j ≡ some w.view
+      stands : (j : ℕ) (w : Worker) → IsOne j w → get_elem? (map end_of accounts) j ≡ some (view_at j)
       stands j w o = image_at end_of accounts j o.account o.at ∙ ap some o.view_is
 
       closed : Closed run (crew_of all.items)
@@ -124,17 +132,19 @@ module _ {C O St : Type 0} (tells : Bool) (state : C → CellState) (offers : O 
         state = g.state;
         sound = g.rule.sound;
         halted = halted_short laws.sizes (basis tells state offers s) told past g.state g.rule.halted;
+        view_at = view_at;
         index = g.index;
-        at = λ j w e. g.at j w.view (stands j w (one j w e));
-        apart = λ j l w x e f same. g.apart j l w.view x.view (stands j w (one j w e)) (stands l x (one l x f)) same;
+        at = λ j w e. g.at j (view_at j) (stands j w (one j w e));
+        apart = λ j l w x e f same. g.apart j l (view_at j) (view_at l) (stands j w (one j w e)) (stands l x (one l x f)) same;
         count = as_many worker_of all.items ∙ all.count ∙ h.count;
         passes = λ j w e. let o = one j w e in subst (λ (v : View (List ℕ)). IsPass v) o.view_is (pass_of o.account.end.pass);
-        accounts = λ j w e. let o = one j w e in subst (λ (x : Worker (List ℕ)). AccountOf run x.view x.served true) o.is o.done.account;
+        accounts = λ j w e. let o = one j w e in subst (λ (v : View (List ℕ)). AccountOf run v w.served true) (o.done.is.ends ∙ o.view_is)
+            (subst (λ (x : Worker). AccountOf run o.course.end x.served true) o.is o.done.account);
       }
 
       serves : ServesScript script (crew_of all.items)
       serves j w e = let o = one j w e in
-          subst (λ (x : Worker (List ℕ)). lines_of_served x.served ≡ filter (λ l. l.worker == j + 1) script) o.is
+          subst (λ (x : Worker). lines_of_served x.served ≡ filter (λ l. l.worker == j + 1) script) o.is
           (script_lines (j + 1) script o.course.stages o.account.stages o.done.is.lines (played j o.account o.at).each)
 
       meets : (c d : Played (List ℕ)) (m n : Told (List ℕ)) (mark : ℕ) → Contains all.items c → Contains all.items d → Contains c.stages m → Contains d.stages n
@@ -145,22 +155,27 @@ module _ {C O St : Type 0} (tells : Bool) (state : C → CellState) (offers : O 
           hands_over x.item y.item c.stages d.stages x.so.views y.so.views
           (h.told x.item y.item (there accounts has_c.0 x.item x.at) (there accounts has_d.0 y.item y.at)) m n mark has_m has_n
 
+      ended_so : (j : ℕ) (c : Played (List ℕ)) → get_elem? all.items j ≡ some c → view_at j ≡ c.end
+      ended_so j c e = let d = all.each j c e in sym (d.so.is.ends ∙ view_of j d.item d.at)
+
       pub closing : HasClosing run script accounts
+      unfolding closed
       closing = record {
         courses = all.items;
         count = all.count;
         each = λ w a c e f. let d = each_of IsDone accounts all w a c e f in d.is;
         closed = closed;
+        views = ended_so;
         serves = serves;
         meets = meets;
       }
 
       -- The crew is closed in the state in which the store was, and each worker of it has the account of its place.
       pub record StandsHere : Type 0 where
-        pub crew : List (Worker (List ℕ))
+        pub crew : List Worker
         pub closed : Closed run crew
         pub same : closed.state ≡ h.closed.gathered.state
-        pub one : (j : ℕ) (w : Worker (List ℕ)) → get_elem? crew j ≡ some w → IsOne j w
+        pub one : (j : ℕ) (w : Worker) → get_elem? crew j ≡ some w → IsOne j w
 
       pub stands_here : StandsHere
       unfolding closed

@@ -130,7 +130,7 @@ module _ {X : Type 0} (r : Run X) (a e : ℕ) (three : stage_of e ≡ 3) (undoom
       q)
       p.0.1
 
-  closed_by : (crew : List (Worker X)) (c : Closed r crew) → IsDone c.state (LeftEpoch a e) → ByWorker r crew c ClosedBy
+  closed_by : (crew : List Worker) (c : Closed r crew) → IsDone c.state (LeftEpoch a e) → ByWorker r crew c ClosedBy
   closed_by crew c done = by_worker r crew c (LeftEpoch a e) ClosedBy closed_line closed_end done
 
 -- a line of a list that is split there
@@ -189,9 +189,9 @@ module _ {C O St : Type 0} (tells : Bool) (state : C → CellState) (offers : O 
     line_is : stage.line ≡ line.asked
     answer_is : stage.answer ≡ line.answer
 
-  stage_of_line : (j : ℕ) (w : Worker (List ℕ)) (o : IsOne tells state offers faults s script told past laws accounts cells h j w) (line : Served) → Contains w.served line → IsStage o.account line
+  stage_of_line : (j : ℕ) (w : Worker) (o : IsOne tells state offers faults s script told past laws accounts cells h j w) (line : Served) → Contains w.served line → IsStage o.account line
   stage_of_line j w o line among =
-      let served = served_told o.course.stages line (subst (λ (z : Worker (List ℕ)). Contains z.served line) (sym o.is) among) in
+      let served = served_told o.course.stages line (subst (λ (z : Worker). Contains z.served line) (sym o.is) among) in
       let m = contains_map (λ (x : Stage (OnShelf C O St)). (x.line, x.answer)) o.account.stages (told_by line)
       (subst (λ (ls : List (Line × Answer)). Contains ls (told_by line)) o.done.is.lines served) in
       record { stage = m.0; among = m.1; line_is = ap (λ (p : Line × Answer). p.0) m.2; answer_is = ap (λ (p : Line × Answer). p.1) m.2 }
@@ -246,8 +246,8 @@ module _ {C O St : Type 0} (tells : Bool) (state : C → CellState) (offers : O 
 
     -- what its worker has seen as the offer stands beside the anchor
     offer_is : side_word g.setting last Offer a ≡ offer_of tells state offers s begun.asked.number
-    offer_is = let at = subst (λ (z : State (List ℕ)). get_elem? z.views (here.closed.index by.j) ≡ some by.worker.view) here.same (here.closed.at by.j by.worker by.at) in
-        (rule.sound.anchors.seen.named (here.closed.index by.j) by.worker.view at a (version_of epoch) Offer (offer_of tells state offers s begun.asked.number) by.so.grows.named.offer refl).0
+    offer_is = let at = subst (λ (z : State (List ℕ)). get_elem? z.views (here.closed.index by.j) ≡ some (here.closed.view_at by.j)) here.same (here.closed.at by.j by.worker by.at) in
+        (rule.sound.anchors.seen.named (here.closed.index by.j) (here.closed.view_at by.j) at a (version_of epoch) Offer (offer_of tells state offers s begun.asked.number) by.so.grows.named.offer refl).0
 
     at_anchor : anchor_of (key_of what.offer.url) g.setting.anchors ≡ a
     at_anchor = let there = by.so.grows.writes.anchor in

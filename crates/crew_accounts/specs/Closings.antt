@@ -26,11 +26,11 @@ pub record Played (X : Type 0) : Type 0 where
   pub stages : List (Stage X)
   pub end : View X
 
--- the worker at the end of a course, and all workers
-abbrev pub worker_of : {X : Type 0} → Played X → Worker X
-worker_of c = record { view = c.end; served = lines_in c.stages }
+-- the worker of a course, and all workers
+abbrev pub worker_of : {X : Type 0} → Played X → Worker
+worker_of c = record { served = lines_in c.stages }
 
-abbrev pub crew_of : {X : Type 0} → List (Played X) → List (Worker X)
+abbrev pub crew_of : {X : Type 0} → List (Played X) → List Worker
 crew_of courses = map worker_of courses
 
 module _ {C O St : Type 0} (r : Run (List ℕ)) (script : List Line) where
@@ -40,7 +40,7 @@ module _ {C O St : Type 0} (r : Run (List ℕ)) (script : List Line) where
     pub starts : c.start ≡ view a.start.pass
     pub ends : c.end ≡ view a.end.pass
     pub number : c.end.pass ≡ w
-    pub is : IsCourseOf r (worker_of c) c.start c.stages
+    pub is : IsCourseOf r (worker_of c) c.start c.stages c.end
     pub last : is.last ≡ view a.last.pass
     pub lines : in_order c.stages ≡ map (λ x. (x.line, x.answer)) a.stages
     pub awaits : (k place mark : ℕ) (line : Line) (answer : Answer) → get_elem? (lines_of (w + 1) script) k ≡ some (place, line)
@@ -55,6 +55,8 @@ module _ {C O St : Type 0} (r : Run (List ℕ)) (script : List Line) where
     pub each : (w : ℕ) (a : Account (OnShelf C O St)) (c : Played (List ℕ)) → get_elem? accounts w ≡ some a → get_elem? courses w ≡ some c
         → IsCourseFor w a c
     pub closed : Closed r (crew_of courses)
+    -- each worker at the view with which its course ended
+    pub views : (w : ℕ) (c : Played (List ℕ)) → get_elem? courses w ≡ some c → closed.view_at w ≡ c.end
     pub serves : ServesScript script (crew_of courses)
     pub meets : (c d : Played (List ℕ)) (m n : Stage (List ℕ)) (mark : ℕ) → Contains courses c → Contains courses d → Contains c.stages m
         → Contains d.stages n

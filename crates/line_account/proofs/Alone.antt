@@ -41,7 +41,7 @@ use Rattle.line_account.proofs.Ordering.{not_below_earlier, stage_in, not_below_
 abbrev one_of : Bool → ℕ
 one_of b = cond b 1 0
 
-module _ {X : Type 0} (r : Run X) (w : Worker X) (c : Closed r (alone w)) where
+module _ {X : Type 0} (r : Run X) (w : Worker) (c : Closed r (alone w)) where
   -- a line of the worker
   abbrev line_in : (later : List Served) (s : Served) (earlier : List Served) → w.served ≡ later ++ s ∷ earlier → (P : List Served → Served → Type 0) → P earlier s → LineIn (alone w) P
   line_in later s earlier e P h = record { j = 0; worker = w; at = refl; later = later; served = s; earlier = earlier; split = e; so = h }
@@ -111,9 +111,9 @@ module _ {X : Type 0} (r : Run X) (w : Worker X) (c : Closed r (alone w)) where
   put_body : (q : Request) (url url2 : List ℕ) (body body2 : Body) → q ≡ Put url body → Offers q url2 body2 → body2 ≡ body
   put_body q url url2 body body2 e h = sym (subst (λ (z : Request). Offers z url2 body2) e h).1
 
-  pub hit_is_stored : IsTrue r.tells → (start : View X) (p g : Stage X) (url bytes : List ℕ) (body : Body) (x y : ℕ) → IsCourseOf r w start (g ∷ p ∷ []) → p.served.asked.request ≡ Put url body → p.served.answer ≡ answer.Stored x
+  pub hit_is_stored : IsTrue r.tells → (start end : View X) (p g : Stage X) (url bytes : List ℕ) (body : Body) (x y : ℕ) → IsCourseOf r w start (g ∷ p ∷ []) end → p.served.asked.request ≡ Put url body → p.served.answer ≡ answer.Stored x
       → g.served.asked.request ≡ Get url → g.served.answer ≡ answer.Hit y bytes → (x ≡ next_version r) × (y ≡ next_version r) × (bytes ≡ bytes_of body)
-  hit_is_stored tells start p g url bytes body x y o pq pa gq ga =
+  hit_is_stored tells start end p g url bytes body x y o pq pa gq ga =
       let a : ℕ = anchor_of (key_of url) r.setting.anchors in
       let e : w.served ≡ g.served ∷ p.served ∷ [] = sym o.lines in
       let put : BegunIn r (alone w) a x = line_in (g.served ∷ []) p.served [] e (Begun a x) (stored_begins (g.served ∷ []) p.served [] url body x e pq pa) in
@@ -154,7 +154,7 @@ module _ {X : Type 0} (r : Run X) (w : Worker X) (c : Closed r (alone w)) where
       in_one (y ∷ []) earlier t k g = let f : [] ≡ t ∷ earlier = cc in cc
       in_one (y ∷ z ∷ later) earlier t k g = let f : [] ≡ z ∷ (later ++ t ∷ earlier) = cc in cc
 
-      by_place : (j : ℕ) (u : Worker X) → get_elem? (alone w) j ≡ some u → LineOf u.served (λ earlier t. Halts r.setting.anchors earlier t a x) → ⊥
+      by_place : (j : ℕ) (u : Worker) → get_elem? (alone w) j ≡ some u → LineOf u.served (λ earlier t. Halts r.setting.anchors earlier t a x) → ⊥
       by_place zero u k l = let same : w ≡ u = some-injective w u k in in_one l.later l.earlier l.served (sym is ∙ ap Worker.served same ∙ l.split) l.so.gave_up
       by_place (suc j) u k l = absurd (some-ne-none u (sym k))
   halts_not s url a x is q m (inr h) = by_place h.j h.worker h.at h.writing.tab h.writing.writes.first h.writing.writes.begun_is
@@ -162,7 +162,7 @@ module _ {X : Type 0} (r : Run X) (w : Worker X) (c : Closed r (alone w)) where
       none : (t : ℕ) → writing t (s ∷ []) ≡ None
       none t = ap (λ (z : Request). cond (begins t z s.answer) (Some s) (cond (ends t z s.answer) None None)) q
 
-      by_place : (j : ℕ) (u : Worker X) → get_elem? (alone w) j ≡ some u → (t : ℕ) (b : Served) → writing t u.served ≡ Some b → ⊥
+      by_place : (j : ℕ) (u : Worker) → get_elem? (alone w) j ≡ some u → (t : ℕ) (b : Served) → writing t u.served ≡ Some b → ⊥
       by_place zero u k t b l = let same : w ≡ u = some-injective w u k in let f : None ≡ Some b = sym (none t) ∙ ap (writing t) (sym is ∙ ap Worker.served same) ∙ l in cc
       by_place (suc j) u k t b l = absurd (some-ne-none u (sym k))
 
@@ -215,17 +215,17 @@ module _ {X : Type 0} (r : Run X) (w : Worker X) (c : Closed r (alone w)) where
           not_given : gives_up p.answer ≡ false → ⊥
           not_given q = let f : true ≡ false = sym pa ∙ q in cc
 
-      by_place : (j : ℕ) (u : Worker X) → get_elem? (alone w) j ≡ some u → LineOf u.served (λ earlier t. PrintsBegunVersion r.setting.anchors t a y) → ⊥
+      by_place : (j : ℕ) (u : Worker) → get_elem? (alone w) j ≡ some u → LineOf u.served (λ earlier t. PrintsBegunVersion r.setting.anchors t a y) → ⊥
       by_place zero u k l = let same : w ≡ u = some-injective w u k in not_told l.served (in_two l.later l.earlier l.served (sym e ∙ ap Worker.served same ∙ l.split)) l.so.told
       by_place (suc j) u k l = absurd (some-ne-none u (sym k))
 
       none : IsBodyAsPrinted r (alone w) a y url bytes → ⊥
       none b = by_place b.begun.j b.begun.worker b.begun.at (record { later = b.begun.later; served = b.begun.served; earlier = b.begun.earlier; split = b.begun.split; so = b.begun.so })
 
-module _ {X : Type 0} (r : Run X) (w : Worker X) where
-  pub no_hit : (start : View X) (p g : Stage X) (url bytes : List ℕ) (e : Epoch) (y : ℕ) → IsCourseOf r w start (g ∷ p ∷ []) → p.served.asked.request ≡ Purge url → p.served.answer ≡ answer.Purged e
+module _ {X : Type 0} (r : Run X) (w : Worker) where
+  pub no_hit : (start end : View X) (p g : Stage X) (url bytes : List ℕ) (e : Epoch) (y : ℕ) → IsCourseOf r w start (g ∷ p ∷ []) end → p.served.asked.request ≡ Purge url → p.served.answer ≡ answer.Purged e
       → g.served.asked.request ≡ Get url → g.served.answer ≡ answer.Hit y bytes → version_of (epoch_number e) ≡ y → ⊥
-  no_hit start p g url bytes e y o pq pa gq ga same =
+  no_hit start end p g url bytes e y o pq pa gq ga same =
       let a : ℕ = anchor_of (key_of url) r.setting.anchors in
       let order : NotBelow (epoch_number e) g.served.answer = not_below_earlier r start (g ∷ p ∷ []) o.last g p (p ∷ []) [] a (epoch_number e) o.course
       (record { in_ = record { later = []; split = refl }; at = record { url = url; named_is = ap (url_at (lines_in (p ∷ []))) gq; anchor = refl } })

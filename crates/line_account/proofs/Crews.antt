@@ -17,20 +17,20 @@ use Rattle.line_account.specs.Order.{HandsOver, StandsIn}
 use Rattle.line_account.proofs.Ordering.{stage_in}
 use Rattle.line_account.proofs.Stages.{HasStage, is_in, of_stage, stage_of}
 
-module _ {X : Type 0} (r : Run X) (crew : List (Worker X)) (have : HaveCourses r crew) where
+module _ {X : Type 0} (r : Run X) (crew : List Worker) {view_at : ℕ → View X} (have : HaveCourses r crew view_at) where
   -- the worker has come so far along its course, with these stages and this view
-  record Reached (j : ℕ) (w : Worker X) (at : get_elem? crew j ≡ some w) (stages : List (Stage X)) (v : View X) : Type 0 where
+  record Reached (j : ℕ) (w : Worker) (at : get_elem? crew j ≡ some w) (stages : List (Stage X)) (v : View X) : Type 0 where
     course : Course r (have.course j w at).start stages v
     inside : (x : Stage X) → Contains stages x → Contains (have.course j w at).stages x
-    kept : (x : Sight) → Contains v.seen x → Contains w.view.seen x
+    kept : (x : Sight) → Contains v.seen x → Contains (view_at j).seen x
 
   -- up to a stage, and with it
-  record Passed (j : ℕ) (w : Worker X) (at : get_elem? crew j ≡ some w) (t : Stage X) (before : List (Stage X)) : Type 0 where
+  record Passed (j : ℕ) (w : Worker) (at : get_elem? crew j ≡ some w) (t : Stage X) (before : List (Stage X)) : Type 0 where
     reached : Reached j w at before t.before
     adds : Adds r t.before (lines_in before) t.served t.after
-    kept : (x : Sight) → Contains t.after.seen x → Contains w.view.seen x
+    kept : (x : Sight) → Contains t.after.seen x → Contains (view_at j).seen x
 
-  passed : (j : ℕ) (w : Worker X) (at : get_elem? crew j ≡ some w) (t : Stage X) (before : List (Stage X)) → StandsIn (have.course j w at).stages t before → Passed j w at t before
+  passed : (j : ℕ) (w : Worker) (at : get_elem? crew j ≡ some w) (t : Stage X) (before : List (Stage X)) → StandsIn (have.course j w at).stages t before → Passed j w at t before
   passed j w at t before is =
       let c = have.course j w at in
       let h = stage_in r c.start c.stages is.later t before c.is.last is.split c.is.course in
@@ -47,16 +47,16 @@ module _ {X : Type 0} (r : Run X) (crew : List (Worker X)) (have : HaveCourses r
   -- the line as a stage of the course of its worker, where this view has all that was known after it
   pub record IsKnown (v : View X) (s : Served) (earlier : List Served) : Type 0 where
     pub j : ℕ
-    pub worker : Worker X
+    pub worker : Worker
     pub at : get_elem? crew j ≡ some worker
     pub stages : List (Stage X)
     pub has : HasStage stages s earlier
     pub course : Course r (have.course j worker at).start has.before has.stage.before
     pub adds : Adds r has.stage.before (lines_in has.before) has.stage.served has.stage.after
     pub known : (x : Sight) → Contains has.stage.after.seen x → Contains v.seen x
-    pub kept : (x : Sight) → Contains has.stage.after.seen x → Contains worker.view.seen x
+    pub kept : (x : Sight) → Contains has.stage.after.seen x → Contains (view_at j).seen x
 
-  knew : {served earlier : List Served} {s : Served} → KnewOf crew served s earlier → (j : ℕ) (w : Worker X) (at : get_elem? crew j ≡ some w) (stages : List (Stage X)) (v : View X) → Reached j w at stages v → lines_in stages ≡ served
+  knew : {served earlier : List Served} {s : Served} → KnewOf crew served s earlier → (j : ℕ) (w : Worker) (at : get_elem? crew j ≡ some w) (stages : List (Stage X)) (v : View X) → Reached j w at stages v → lines_in stages ≡ served
       → IsKnown v s earlier
   knew {served} {earlier} {s} (own among) j w at stages v reached same =
       let h = stage_of stages served s earlier same among in
@@ -86,7 +86,7 @@ module _ {X : Type 0} (r : Run X) (crew : List (Worker X)) (have : HaveCourses r
     pub adds : Adds r has_stage.stage.before (lines_in has_stage.before) has_stage.stage.served has_stage.stage.after
     adds = along.adds
 
-    pub kept : (x : Sight) → Contains has_stage.stage.after.seen x → Contains p.worker.view.seen x
+    pub kept : (x : Sight) → Contains has_stage.stage.after.seen x → Contains (view_at p.j).seen x
     kept = along.kept
 
     pub course : Course r (have.course p.j p.worker p.at).start has_stage.before has_stage.stage.before

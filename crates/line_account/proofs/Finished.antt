@@ -111,7 +111,7 @@ begins_or_ended t (Save url body) x is h = inr (refl, h)
 begins_or_ended t (Begin tab url body) x is h = inl (record { tab = tab; begins_there = subst (λ (q : Request). begins tab q t.answer ≡ true) is (begins_on t.answer x tab h) })
 begins_or_ended t _ x is h = absurd h
 
-module _ {X : Type 0} (r : Run X) (crew : List (Worker X)) (c : Closed r crew) (y : IsTrue r.tells) (a x : ℕ) (p : LineIn crew (λ earlier s. ReadsWhole r.setting.anchors earlier s a x)) (high : opening_counter r.setting < x) where
+module _ {X : Type 0} (r : Run X) (crew : List Worker) (c : Closed r crew) (y : IsTrue r.tells) (a x : ℕ) (p : LineIn crew (λ earlier s. ReadsWhole r.setting.anchors earlier s a x)) (high : opening_counter r.setting < x) where
   abbrev b : BegunIn r crew a x
   b = whole_begun r crew c y a x p high
 
@@ -136,7 +136,7 @@ module _ {X : Type 0} (r : Run X) (crew : List (Worker X)) (c : Closed r crew) (
     later_fits : (front back : List Served) (s : Served) → b.later ≡ front ++ s ∷ back → begins on.tab s.asked.request s.answer ≡ true → writing on.tab (back ++ t ∷ b.earlier) ≡ None
     later_fits front back s is begun =
         let split = b.split ∙ ap (λ (z : List Served). z ++ t ∷ b.earlier) is ∙ append_assoc front (s ∷ back) (t ∷ b.earlier) in
-        free_before r b.worker.view (back ++ t ∷ b.earlier) s ((c.accounts b.j b.worker b.at).lines front (back ++ t ∷ b.earlier) s split) on.tab begun
+        free_before r (c.view_at b.j) (back ++ t ∷ b.earlier) s ((c.accounts b.j b.worker b.at).lines front (back ++ t ∷ b.earlier) s split) on.tab begun
 
     by_end : (l : LineOf (b.later ++ t ∷ b.earlier) (EndsTab on.tab t)) → FinishedIn r crew a x
     by_end l =

@@ -120,18 +120,18 @@ module _ {X : Type 0} (r : Run X) (v : View X) (earlier : List Served) (s : Serv
   pub found : (a x : ℕ) (url : List ℕ) → Finds r.setting.anchors s a x url → HasFound a x url
   found a x url f = subst (λ (b : ℕ). HasFound b x url) (sym f.anchor) (found_by s.answer x url refl f.named f.found)
 
-module _ {X : Type 0} (r : Run X) (crew : List (Worker X)) (c : Closed r crew) (a x : ℕ) (url : List ℕ) (p : LineIn crew (λ earlier s. Finds r.setting.anchors s a x url)) where
-  has : HasFound r p.worker.view p.earlier p.served (tells_at r crew c (λ earlier s. Finds r.setting.anchors s a x url) p) a x url
-  has = found r p.worker.view p.earlier p.served (tells_at r crew c (λ earlier s. Finds r.setting.anchors s a x url) p) a x url p.so
+module _ {X : Type 0} (r : Run X) (crew : List Worker) (c : Closed r crew) (a x : ℕ) (url : List ℕ) (p : LineIn crew (λ earlier s. Finds r.setting.anchors s a x url)) where
+  has : HasFound r (c.view_at p.j) p.earlier p.served (tells_at r crew c (λ earlier s. Finds r.setting.anchors s a x url) p) a x url
+  has = found r (c.view_at p.j) p.earlier p.served (tells_at r crew c (λ earlier s. Finds r.setting.anchors s a x url) p) a x url p.so
 
   known : IsEpochAt r.setting c.state a has.epoch
-  known = inr (c.index p.j, p.worker.view, c.at p.j p.worker p.at, has.keyed.seen)
+  known = inr (c.index p.j, c.view_at p.j, c.at p.j p.worker p.at, has.keyed.seen)
 
   pub found_there : x ≤ opening_counter r.setting → HadEntry r a
   found_there low = old_kept r crew c a has.epoch known has.keyed.readable (subst (λ (n : ℕ). n ≤ opening_counter r.setting) (sym has.version_is) low)
 
   pub found_old : (kept : List ℕ) → x ≤ opening_counter r.setting → IsOldUrl r a kept → key_of url ≡ key_of kept
-  found_old kept low old = of_old_key r crew c p.worker.view a has.epoch (key_of url) kept has.keyed (subst (λ (n : ℕ). n ≤ opening_counter r.setting) (sym has.version_is) low) old
+  found_old kept low old = of_old_key r crew c (c.view_at p.j) a has.epoch (key_of url) kept has.keyed (subst (λ (n : ℕ). n ≤ opening_counter r.setting) (sym has.version_is) low) old
 
   pub found_new : opening_counter r.setting < x → IsKeyOfLine r crew a x (key_of url)
   found_new high = subst (λ (n : ℕ). IsKeyOfLine r crew a n (key_of url)) has.version_is

@@ -5,7 +5,7 @@ use Rattle.line_account.specs.Closing.{LineIn, Worker}
 use Rattle.line_account.specs.Deeds.{Evicts}
 use Rattle.line_account.specs.Printed.{MayGiveWay, WasWhole}
 
-module _ {X : Type 0} (r : Run X) (crew : List (Worker X)) (a x : ℕ) where
+module _ {X : Type 0} (r : Run X) (crew : List Worker) (a x : ℕ) where
   pub gave_way : LineIn crew (λ earlier s. Evicts r s) → WasWhole r crew a x → MayGiveWay r crew a x
   gave_way p whole = record {
     unfit = p.so.wants;

@@ -21,6 +21,7 @@ use Rattle.line_account.specs.Accounts.{Account}
 use Rattle.line_account.specs.Courses.{Begins}
 use Rattle.line_account.specs.Closing.{Closed, Worker}
 use Rattle.line_account.specs.Idle.{idle_workers}
+use Rattle.line_account.specs.Lines.{Served}
 use Rattle.line_account.proofs.Courses.{account_begins, account_left}
 
 contains_next : (x y : Sight) (xs : List Sight) → Contains xs y → Contains (x ∷ xs) y
@@ -45,24 +46,21 @@ module _ {X : Type 0} (r : Run X) where
     halts = λ a x h. absurd (let z : None ≡ Some h.writes.first = h.writes.begun_is in cc);
   })
 
-  -- the worker at a place is a new one
-  record IsNew (w : Worker X) : Type 0 where
-    pass : ℕ
-    is : record { view = new_view r.setting pass; served = [] } ≡ w
+  -- a worker that served nothing
+  served_none : (count j : ℕ) (w : Worker) → get_elem? (idle_workers count) j ≡ some w → [] ≡ w.served
+  served_none zero j w e = absurd (some-ne-none w (sym e))
+  served_none (suc count) zero w e = ap Worker.served (some-injective _ w e)
+  served_none (suc count) (suc j) w e = served_none count j w e
 
-  new_at : (from count j : ℕ) (w : Worker X) → get_elem? (idle_workers r.setting from count) j ≡ some w → IsNew w
+  -- and the view of its pass
+  new_at : (from count j : ℕ) (w : Worker) → get_elem? (idle_workers count) j ≡ some w → get_elem? (new_views r.setting from count) j ≡ some (new_view r.setting (from + j))
   new_at from zero j w e = absurd (some-ne-none w (sym e))
-  new_at from (suc count) zero w e = record { pass = from; is = some-injective _ w e }
-  new_at from (suc count) (suc j) w e = new_at (from + 1) count j w e
+  new_at from (suc count) zero w e = ap (λ n. some (new_view r.setting n)) (let z : from ≡ from + 0 = omega arith in z)
+  new_at from (suc count) (suc j) w e = new_at (from + 1) count j w e ∙ ap (λ n. some (new_view r.setting n)) (let z : from + 1 + j ≡ from + suc j = omega arith in z)
 
-  view_at : (from count j : ℕ) (w : Worker X) → get_elem? (idle_workers r.setting from count) j ≡ some w → get_elem? (new_views r.setting from count) j ≡ some w.view
-  view_at from zero j w e = absurd (some-ne-none w (sym e))
-  view_at from (suc count) zero w e = ap (λ (u : Worker X). some u.view) (some-injective _ w e)
-  view_at from (suc count) (suc j) w e = view_at (from + 1) count j w e
-
-  idle_count : (from count : ℕ) → length (idle_workers r.setting from count) ≡ count
-  idle_count from zero = refl
-  idle_count from (suc count) = let h = idle_count (from + 1) count in omega arith
+  idle_count : (count : ℕ) → length (idle_workers count) ≡ count
+  idle_count zero = refl
+  idle_count (suc count) = let h = idle_count count in omega arith
 
   -- a new view has seen no published slot
   none_published : (n a x many : ℕ) → Contains (sights_below r.setting n) (Published a x many) → ⊥
@@ -80,7 +78,7 @@ module _ {X : Type 0} (r : Run X) where
   new_seen (suc count) from zero v e = sym (ap View.seen (some-injective (new_view r.setting from) v e))
   new_seen (suc count) from (suc i) v e = new_seen count (from + 1) i v e
 
-  pub idle_closed : (s : State X) → Sound r.setting s → s.views ≡ new_views r.setting 0 r.setting.passes → Closed r (idle_workers r.setting 0 r.setting.passes)
+  pub idle_closed : (s : State X) → Sound r.setting s → s.views ≡ new_views r.setting 0 r.setting.passes → Closed r (idle_workers r.setting.passes)
   idle_closed s so is = record {
     state = s;
     sound = so;
@@ -88,10 +86,11 @@ module _ {X : Type 0} (r : Run X) where
       short = λ i j l u v z au av az a e many number four stood shown named.
           absurd (none_published r.setting.anchors a (version_of e) many (subst (λ (y : List Sight). Contains y (Published a (version_of e) many)) (new_seen r.setting.passes 0 j v (ap (λ y. get_elem? y j) (sym is) ∙ av)) shown));
     };
+    view_at = λ j. new_view r.setting j;
     index = λ j. j;
-    at = λ j w e. ap (λ l. get_elem? l j) is ∙ view_at 0 r.setting.passes j w e;
+    at = λ j w e. ap (λ l. get_elem? l j) is ∙ new_at 0 r.setting.passes j w e ∙ ap (λ n. some (new_view r.setting n)) (let z : 0 + j ≡ j = omega arith in z);
     apart = λ j l w x e g h. h;
-    count = idle_count 0 r.setting.passes;
-    passes = λ j w e. subst (λ (u : Worker X). IsPass u.view) (new_at 0 r.setting.passes j w e).is refl;
-    accounts = λ j w e. let n = new_at 0 r.setting.passes j w e in subst (λ (u : Worker X). Account r u.view u.served true) n.is (new_account n.pass);
+    count = idle_count r.setting.passes;
+    passes = λ j w e. refl;
+    accounts = λ j w e. subst (λ (l : List Served). Account r (new_view r.setting j) l true) (served_none r.setting.passes j w e) (new_account j);
   }

@@ -16,7 +16,7 @@ use Rattle.line_account.proofs.Crews.{IsKnown, adds, course, has_stage, known_be
 use Rattle.line_account.proofs.Ordering.{Seen, above_seen, itself, not_below_seen, seen_after, seen_on, start_known}
 use Rattle.line_account.proofs.Stages.{of_line, of_stage}
 
-module _ {X : Type 0} (r : Run X) (crew : List (Worker X)) (have : HaveCourses r crew) where
+module _ {X : Type 0} (r : Run X) (crew : List Worker) {view_at : ℕ → View X} (have : HaveCourses r crew view_at) where
   -- what such a line counts as was seen
   seen_known : (v : View X) (a d : ℕ) (s : Served) (earlier : List Served) → IsKnown r crew have v s earlier → CountsAt r.setting.anchors earlier s a d → Seen r a d v
   seen_known v a d s earlier k counts =

@@ -1,4 +1,5 @@
 pub mod Rows
+mod Ended
 pub mod Gathered
 pub mod Versions
 pub mod Courses

@@ -67,7 +67,7 @@ offered_url (Save u b) url body h = ap Some h.0
 offered_url (Begin tab u b) url body h = ap Some h.0
 offered_url _ url body h = absurd h
 
-module _ {X : Type 0} (r : Run X) (crew : List (Worker X)) (c : Closed r crew) where
+module _ {X : Type 0} (r : Run X) (crew : List Worker) (c : Closed r crew) where
   abbrev GrowsAt : ℕ → ℕ → View X → List Served → Served → Type 0
   GrowsAt a x v earlier s = Grows r.setting v earlier s a x
 
@@ -108,9 +108,9 @@ module _ {X : Type 0} (r : Run X) (crew : List (Worker X)) (c : Closed r crew) w
   pub record HasNames (a x : ℕ) : Type 0 where
     pub begun : BegunIn r crew a x
     pub j : ℕ
-    pub worker : Worker X
+    pub worker : Worker
     pub at : get_elem? crew j ≡ some worker
-    pub named : IsNamed r.setting worker.view a x begun.served
+    pub named : IsNamed r.setting (c.view_at j) a x begun.served
 
   abbrev first_in : (a x : ℕ) (g : ByWorker r crew c (GrowsAt a x)) → LineIn crew (λ earlier s. s.drew ≡ Some x)
   first_in a x g =
@@ -138,4 +138,4 @@ module _ {X : Type 0} (r : Run X) (crew : List (Worker X)) (c : Closed r crew) w
       let first : LineIn crew (λ earlier s. s.drew ≡ Some x) = first_in a x g in
       let same : g.so.writes.first ≡ begun.served = same_line r crew c (λ earlier s. s.drew ≡ Some x) (λ earlier s. Begins r.setting.anchors s a x) first begun
       (one_line r crew c (λ earlier s. s.drew ≡ Some x) (λ earlier s. Begins r.setting.anchors s a x) first begun x g.so.writes.drew begun.so.drew) in
-      record { begun = begun; j = g.j; worker = g.worker; at = g.at; named = subst (λ (s : Served). IsNamed r.setting g.worker.view a x s) same g.so.named }
+      record { begun = begun; j = g.j; worker = g.worker; at = g.at; named = subst (λ (s : Served). IsNamed r.setting (c.view_at g.j) a x s) same g.so.named }

@@ -47,28 +47,28 @@ more_behind room url n p le = let m = mul-le-mul_right room le in omega arith
 none_behind : (room : ℕ) (url : List ℕ) (n : ℕ) → n ≡ 0 → bytes_behind room url n ≤ 0
 none_behind room url n e = let m : n * room ≡ 0 * room = ap (λ x. x * room) e in omega arith
 
-module _ {X : Type 0} (r : Run X) (crew : List (Worker X)) (c : Closed r crew) where
+module _ {X : Type 0} (r : Run X) (crew : List Worker) (c : Closed r crew) where
   -- what stood or was named with a new version did so at one anchor
-  same_anchor : (j l : ℕ) (w u : Worker X) → get_elem? crew j ≡ some w → get_elem? crew l ≡ some u → (a b e offer : ℕ) → stage_of e ≡ 2 → Contains w.view.seen (Stood a e) → Contains u.view.seen (Named b (version_of e) Offer offer) → b ≡ a
+  same_anchor : (j l : ℕ) (w u : Worker) → get_elem? crew j ≡ some w → get_elem? crew l ≡ some u → (a b e offer : ℕ) → stage_of e ≡ 2 → Contains (c.view_at j).seen (Stood a e) → Contains (c.view_at l).seen (Named b (version_of e) Offer offer) → b ≡ a
   same_anchor j l w u at there a b e offer two stood named = dite (dec_le (version_of e) (opening_counter r.setting))
-      (λ low. absurd ((known_quiet r.setting c.state c.sound a e (inr (c.index j, w.view, c.at j w at, stood)) low).1 two))
+      (λ low. absurd ((known_quiet r.setting c.state c.sound a e (inr (c.index j, c.view_at j, c.at j w at, stood)) low).1 two))
       (λ high. c.sound.anchors.held.one_anchor b a (version_of e) (omega arith)
-      (inr record { i = c.index l; view = u.view; at = c.at l u there; sight = Named b (version_of e) Offer offer; seen = named; anchor = refl; version_is = refl })
-      (inr record { i = c.index j; view = w.view; at = c.at j w at; sight = Stood a e; seen = stood; anchor = refl; version_is = refl }))
+      (inr record { i = c.index l; view = c.view_at l; at = c.at l u there; sight = Named b (version_of e) Offer offer; seen = named; anchor = refl; version_is = refl })
+      (inr record { i = c.index j; view = c.view_at j; at = c.at j w at; sight = Stood a e; seen = stood; anchor = refl; version_is = refl }))
 
   -- PART gives at least the bytes of slots that were seen published before
-  enough : (j l : ℕ) (w u : Worker X) → get_elem? crew j ≡ some w → get_elem? crew l ≡ some u → (v after : View X) (earlier : List Served) (s : Served) (e : ℕ) → stage_of e ≡ 2
-      → (p : HasPart r v after earlier s e) → ((x : Sight) → Contains after.seen x → Contains w.view.seen x)
-      → (b n offer : ℕ) (url : List ℕ) → 0 < n → Contains v.seen (Published b (version_of e) n) → Contains u.view.seen (Named b (version_of e) Offer offer) → r.url offer ≡ url
+  enough : (j l : ℕ) (w u : Worker) → get_elem? crew j ≡ some w → get_elem? crew l ≡ some u → (v after : View X) (earlier : List Served) (s : Served) (e : ℕ) → stage_of e ≡ 2
+      → (p : HasPart r v after earlier s e) → ((x : Sight) → Contains after.seen x → Contains (c.view_at j).seen x)
+      → (b n offer : ℕ) (url : List ℕ) → 0 < n → Contains v.seen (Published b (version_of e) n) → Contains (c.view_at l).seen (Named b (version_of e) Offer offer) → r.url offer ≡ url
       → bytes_behind r.room url n ≤ given_with earlier s
   enough j l w u at there v after earlier s e two p keeps b n offer url some_slot published named url_is =
       let g = p.given in
       let a : ℕ = anchor_of (key_of g.url) r.setting.anchors in
       let same : b ≡ a = same_anchor j l w u at there a b e offer two (keeps (Stood a e) p.seen) named in
       let least : n ≤ g.place = p.least n (subst (λ y. Contains v.seen (Published a y n)) p.version (subst (λ z. Contains v.seen (Published z (version_of e) n)) same published)) in
-      let mine : Contains w.view.seen (Named a (version_of e) Offer g.entry.offer) = keeps (Named a (version_of e) Offer g.entry.offer) (subst (λ y. Contains after.seen (Named a y Offer g.entry.offer)) (sym p.version) g.entry.offered) in
-      let theirs : Contains u.view.seen (Named a (version_of e) Offer offer) = subst (λ z. Contains u.view.seen (Named z (version_of e) Offer offer)) same named in
-      let one : g.entry.offer ≡ offer = c.sound.anchors.seen.agree (c.index j) (c.index l) w.view u.view (c.at j w at) (c.at l u there) a (version_of e) Offer g.entry.offer offer mine theirs in
+      let mine : Contains (c.view_at j).seen (Named a (version_of e) Offer g.entry.offer) = keeps (Named a (version_of e) Offer g.entry.offer) (subst (λ y. Contains after.seen (Named a y Offer g.entry.offer)) (sym p.version) g.entry.offered) in
+      let theirs : Contains (c.view_at l).seen (Named a (version_of e) Offer offer) = subst (λ z. Contains (c.view_at l).seen (Named z (version_of e) Offer offer)) same named in
+      let one : g.entry.offer ≡ offer = c.sound.anchors.seen.agree (c.index j) (c.index l) (c.view_at j) (c.view_at l) (c.at j w at) (c.at l u there) a (version_of e) Offer g.entry.offer offer mine theirs in
       let urls : url ≡ g.url = sym url_is ∙ ap r.url (sym one) ∙ g.url_is (omega arith) in
       let m = more_behind r.room g.url n g.place least in
       subst (λ z. bytes_behind r.room z n ≤ given_with earlier s) (sym urls) (let all = p.all in omega arith)
@@ -140,15 +140,15 @@ module _ {X : Type 0} (r : Run X) where
         };
       }
 
-module _ {X : Type 0} (r : Run X) (crew : List (Worker X)) (c : Closed r crew) (y : IsTrue r.tells) where
+module _ {X : Type 0} (r : Run X) (crew : List Worker) (c : Closed r crew) (y : IsTrue r.tells) where
   -- a line of a worker: what it adds, and that the worker knows at the end what it knew after the line
-  record IsLineOf (w : Worker X) (t : Stage X) (before : List (Stage X)) : Type 0 where
+  record IsLineOf (j : ℕ) (t : Stage X) (before : List (Stage X)) : Type 0 where
     adds : Adds r t.before (lines_in before) t.served t.after
-    keeps : (x : Sight) → Contains t.after.seen x → Contains w.view.seen x
+    keeps : (x : Sight) → Contains t.after.seen x → Contains (c.view_at j).seen x
 
   -- where another line is known before the line that printed PART
-  bound : (j l : ℕ) (w u : Worker X) → get_elem? crew j ≡ some w → get_elem? crew l ≡ some u → (t s : Stage X) (before : List (Stage X)) (x slots : ℕ) (url : List ℕ)
-      → IsLineOf w t before → PrintsPart t.served x → ((z : Sight) → Contains s.after.seen z → Contains t.before.seen z) → ((z : Sight) → Contains s.after.seen z → Contains u.view.seen z)
+  bound : (j l : ℕ) (w u : Worker) → get_elem? crew j ≡ some w → get_elem? crew l ≡ some u → (t s : Stage X) (before : List (Stage X)) (x slots : ℕ) (url : List ℕ)
+      → IsLineOf j t before → PrintsPart t.served x → ((z : Sight) → Contains s.after.seen z → Contains t.before.seen z) → ((z : Sight) → Contains s.after.seen z → Contains (c.view_at l).seen z)
       → (0 < slots → Behind r s.after x url slots) → bytes_behind r.room url slots ≤ given_with (lines_in before) t.served
   bound j l w u at there t s before x slots url line p known kept behind = dite (ℕ_discrete slots 0)
       (λ none. let z = none_behind r.room url slots none in omega arith)
@@ -158,29 +158,29 @@ module _ {X : Type 0} (r : Run X) (crew : List (Worker X)) (c : Closed r crew) (
       let e : ℕ = epoch_number p.epoch in
       enough r crew c j l w u at there t.before t.after (lines_in before) t.served e (line.adds.tells.part p.epoch p.bytes p.printed) part line.keeps b.anchor slots b.offer url (omega arith)
       (subst (λ z. Contains t.before.seen (Published b.anchor z slots)) (sym p.version_is) (known _ b.published))
-      (subst (λ z. Contains u.view.seen (Named b.anchor z Offer b.offer)) (sym p.version_is) (kept _ b.named))
+      (subst (λ z. Contains (c.view_at l).seen (Named b.anchor z Offer b.offer)) (sym p.version_is) (kept _ b.named))
       b.url_is)
 
   -- a line that the worker knew of before the line t
-  record IsKnown (u : Worker X) (t s : Stage X) (earlier : List (Stage X)) : Type 0 where
+  record IsKnown (l : ℕ) (t s : Stage X) (earlier : List (Stage X)) : Type 0 where
     adds : Adds r s.before (lines_in earlier) s.served s.after
     account : Account r s.after (s.served ∷ lines_in earlier) false
     known : (z : Sight) → Contains s.after.seen z → Contains t.before.seen z
-    kept : (z : Sight) → Contains s.after.seen z → Contains u.view.seen z
+    kept : (z : Sight) → Contains s.after.seen z → Contains (c.view_at l).seen z
 
-  added_bound : (j l : ℕ) (w u : Worker X) → get_elem? crew j ≡ some w → get_elem? crew l ≡ some u → (t s : Stage X) (before earlier : List (Stage X)) (x slots : ℕ) (url : List ℕ)
-      → IsLineOf w t before → IsKnown u t s earlier → PrintsPart t.served x → AddsTo r (lines_in earlier) s.served x url slots → bytes_behind r.room url slots ≤ given_with (lines_in before) t.served
+  added_bound : (j l : ℕ) (w u : Worker) → get_elem? crew j ≡ some w → get_elem? crew l ≡ some u → (t s : Stage X) (before earlier : List (Stage X)) (x slots : ℕ) (url : List ℕ)
+      → IsLineOf j t before → IsKnown l t s earlier → PrintsPart t.served x → AddsTo r (lines_in earlier) s.served x url slots → bytes_behind r.room url slots ≤ given_with (lines_in before) t.served
   added_bound j l w u at there t s before earlier x slots url line k p a = bound j l w u at there t s before x slots url line p k.known k.kept (added_behind r s.after (lines_in earlier) s.served x url slots k.adds.tells a)
 
-  given_bound : (j l : ℕ) (w u : Worker X) → get_elem? crew j ≡ some w → get_elem? crew l ≡ some u → (t s : Stage X) (before earlier : List (Stage X)) (x tab : ℕ)
-      → IsLineOf w t before → IsKnown u t s earlier → PrintsPart t.served x → GivesOf (lines_in earlier) s.served tab x → given tab (s.served ∷ lines_in earlier) ≤ given_with (lines_in before) t.served
+  given_bound : (j l : ℕ) (w u : Worker) → get_elem? crew j ≡ some w → get_elem? crew l ≡ some u → (t s : Stage X) (before earlier : List (Stage X)) (x tab : ℕ)
+      → IsLineOf j t before → IsKnown l t s earlier → PrintsPart t.served x → GivesOf (lines_in earlier) s.served tab x → given tab (s.served ∷ lines_in earlier) ≤ given_with (lines_in before) t.served
   given_bound j l w u at there t s before earlier x tab line k p g =
       let h = given_behind r s.after (lines_in earlier) s.served tab x y k.account k.adds.tells g in
       let b = bound j l w u at there t s before x h.slots h.url line p k.known k.kept h.behind in
       let m = h.most in
       omega arith
 
-  module _ (have : HaveCourses r crew) (x : ℕ) (p : LineIn crew (λ before t. PrintsPart t x)) (s : Served) (earlier : List Served) (knows : KnewOf crew p.earlier s earlier) where
+  module _ (have : HaveCourses r crew c.view_at) (x : ℕ) (p : LineIn crew (λ before t. PrintsPart t x)) (s : Served) (earlier : List Served) (knows : KnewOf crew p.earlier s earlier) where
     abbrev P : List Served → Served → Type 0
     P before t = PrintsPart t x
 
@@ -190,7 +190,7 @@ module _ {X : Type 0} (r : Run X) (crew : List (Worker X)) (c : Closed r crew) (
     abbrev h : HasStage stages p.served p.earlier
     h = has_stage r crew have P p
 
-    line : IsLineOf p.worker h.stage h.before
+    line : IsLineOf p.j h.stage h.before
     line = record { adds = adds r crew have P p; keeps = kept r crew have P p }
 
     part : PrintsPart h.stage.served x
@@ -199,7 +199,7 @@ module _ {X : Type 0} (r : Run X) (crew : List (Worker X)) (c : Closed r crew) (
     k : Known r crew have h.stage.before s earlier
     k = known_before r crew have P p s earlier knows
 
-    known : IsKnown k.worker h.stage k.has.stage k.has.before
+    known : IsKnown k.j h.stage k.has.stage k.has.before
     known = record {
       adds = k.adds;
       account = account_after r k.has.stage.before k.has.stage.after (lines_in k.has.before) k.has.stage.served
@@ -217,7 +217,7 @@ module _ {X : Type 0} (r : Run X) (crew : List (Worker X)) (c : Closed r crew) (
         (of_line (λ before z. given tab (z ∷ before) ≤ given_with (lines_in h.before) h.stage.served) k.stages s earlier k.has
         (given_bound p.j k.j p.worker k.worker p.at k.at h.stage k.has.stage h.before k.has.before x tab line known part (of_stage (λ before z. GivesOf before z tab x) k.stages s earlier k.has g)))
 
-pub not_short : {X : Type 0} → (r : Run X) (crew : List (Worker X)) → Closed r crew → HaveCourses r crew → IsTrue r.tells → AreNotShort r crew
+pub not_short : {X : Type 0} → (r : Run X) (crew : List Worker) → (c : Closed r crew) → HaveCourses r crew c.view_at → IsTrue r.tells → AreNotShort r crew
 not_short r crew c have y = record {
   added = λ x slots url s earlier p knows a. added_known r crew c y have x p s earlier knows slots url a;
   gave = λ x tab s earlier p knows g. given_known r crew c y have x p s earlier knows tab g;

@@ -67,9 +67,9 @@ same_key key other long long2 small small2 front back =
     let g : drop 8 key ≡ drop 8 other = sym (half_again (drop 8 key) (omega arith) (drop_small 8 key small)) ∙ ap (to_le_bytes w64) back ∙ half_again (drop 8 other) (omega arith) (drop_small 8 other small2) in
     sym (take-append-drop 8 key) ∙ ap (λ l. l ++ drop 8 key) f ∙ ap (λ l. take 8 other ++ l) g ∙ take-append-drop 8 other
 
-module _ {X : Type 0} (r : Run X) (crew : List (Worker X)) (c : Closed r crew) where
-  known : (P : List Served → Served → Type 0) (p : LineIn crew P) (a e : ℕ) → Contains p.worker.view.seen (Stood a e) → IsEpochAt r.setting c.state a e
-  known P p a e h = inr (c.index p.j, p.worker.view, c.at p.j p.worker p.at, h)
+module _ {X : Type 0} (r : Run X) (crew : List Worker) (c : Closed r crew) where
+  known : (P : List Served → Served → Type 0) (p : LineIn crew P) (a e : ℕ) → Contains (c.view_at p.j).seen (Stood a e) → IsEpochAt r.setting c.state a e
+  known P p a e h = inr (c.index p.j, c.view_at p.j, c.at p.j p.worker p.at, h)
 
   -- an entry of the opening that may be read was there then
   pub old_kept : (a e : ℕ) → IsEpochAt r.setting c.state a e → is_readable e ≡ true → version_of e ≤ opening_counter r.setting → HadEntry r a
@@ -98,10 +98,10 @@ module _ {X : Type 0} (r : Run X) (crew : List (Worker X)) (c : Closed r crew) w
   of_old_key v a e key url k low old = same_key key (key_of url) k.long (key_is_long url) k.bytes (key_is_bytes url) (k.old_front low ∙ old.front) (k.old_back low ∙ old.back)
 
   -- one of a later version is that of the line which began the version
-  pub of_new_key : (j : ℕ) (w : Worker X) → get_elem? crew j ≡ some w → (a e : ℕ) (key : List ℕ) → IsKeyRead r w.view a e key → opening_counter r.setting < version_of e → IsKeyOfLine r crew a (version_of e) key
+  pub of_new_key : (j : ℕ) (w : Worker) → get_elem? crew j ≡ some w → (a e : ℕ) (key : List ℕ) → IsKeyRead r (c.view_at j) a e key → opening_counter r.setting < version_of e → IsKeyOfLine r crew a (version_of e) key
   of_new_key j w at a e key k high =
-      let n = names_of r crew c a e (inr (c.index j, w.view, c.at j w at, k.seen)) k.readable high in
-      let agree = c.sound.anchors.seen.agree (c.index j) (c.index n.j) w.view n.worker.view (c.at j w at) (c.at n.j n.worker n.at) a (version_of e) in
+      let n = names_of r crew c a e (inr (c.index j, c.view_at j, c.at j w at, k.seen)) k.readable high in
+      let agree = c.sound.anchors.seen.agree (c.index j) (c.index n.j) (c.view_at j) (c.view_at n.j) (c.at j w at) (c.at n.j n.worker n.at) a (version_of e) in
       record {
         begun = n.begun;
         url = n.named.url;
@@ -114,7 +114,7 @@ module _ {X : Type 0} (r : Run X) (crew : List (Worker X)) (c : Closed r crew) w
   pub key_of_old : (a : ℕ) (epoch : Epoch) (key url : List ℕ) → KeyIn r crew a epoch key → version_of (epoch_number epoch) ≤ opening_counter r.setting → IsOldUrl r a url → key ≡ key_of url
   key_of_old a epoch key url p low old =
       let k = (tells_at r crew c (λ earlier s. PrintsKey r.setting.anchors earlier s a epoch key) p).key epoch key a p.so.printed p.so.at in
-      of_old_key p.worker.view a (epoch_number epoch) key url k low old
+      of_old_key (c.view_at p.j) a (epoch_number epoch) key url k low old
 
   pub key_of_new : (a : ℕ) (epoch : Epoch) (key : List ℕ) → KeyIn r crew a epoch key → opening_counter r.setting < version_of (epoch_number epoch) → IsKeyOfLine r crew a (version_of (epoch_number epoch)) key
   key_of_new a epoch key p high =
@@ -130,10 +130,10 @@ module _ {X : Type 0} (r : Run X) (crew : List (Worker X)) (c : Closed r crew) w
     pub url_is : r.url offer ≡ made.url
     pub body_is : r.body offer ≡ bytes_of made.body
 
-  pub of_line : (P : List Served → Served → Type 0) (p : LineIn crew P) (a e : ℕ) (url : List ℕ) (i : IsEntryAt r p.worker.view a e url) → opening_counter r.setting < version_of e → IsOfLine a (version_of e) i.offer
+  pub of_line : (P : List Served → Served → Type 0) (p : LineIn crew P) (a e : ℕ) (url : List ℕ) (i : IsEntryAt r (c.view_at p.j) a e url) → opening_counter r.setting < version_of e → IsOfLine a (version_of e) i.offer
   of_line P p a e url i high =
       let n = names_of r crew c a e (known P p a e i.seen) i.readable high in
-      let same : i.offer ≡ r.setting.slots + n.begun.served.asked.number = c.sound.anchors.seen.agree (c.index p.j) (c.index n.j) p.worker.view n.worker.view
+      let same : i.offer ≡ r.setting.slots + n.begun.served.asked.number = c.sound.anchors.seen.agree (c.index p.j) (c.index n.j) (c.view_at p.j) (c.view_at n.j)
       (c.at p.j p.worker p.at) (c.at n.j n.worker n.at) a (version_of e) Offer i.offer (r.setting.slots + n.begun.served.asked.number) i.offered n.named.offer in
       let made = offer_of n.begun.served.asked.request n.begun.served.answer (version_of e) n.begun.so.began in
       let told = (tells_at r crew c (λ earlier s. Begins r.setting.anchors s a (version_of e)) n.begun).offered made.url made.body made.offers in
@@ -186,7 +186,7 @@ module _ {X : Type 0} (r : Run X) (crew : List (Worker X)) (c : Closed r crew) w
       P : List Served → Served → Type 0
       P earlier s = PrintsOther earlier s url
 
-      told : HasOther r p.worker.view p.earlier p.served
+      told : HasOther r (c.view_at p.j) p.earlier p.served
       told = (tells_at r crew c (λ earlier s. PrintsOther earlier s url) p).other y p.so.printed
 
       first : told.first ≡ p.so.first
@@ -214,14 +214,14 @@ module _ {X : Type 0} (r : Run X) (crew : List (Worker X)) (c : Closed r crew) w
   -- Readers.
 
   pub another_comes : (a : ℕ) (p : LineIn crew (λ earlier s. PrintsReaders r.setting.anchors earlier s a)) → AnotherComes r crew p.j a
-  another_comes a p = of_deed (deed_in r crew c (EnteredByAnother a p.worker.view.pass) (c.sound.anchors.deeds.met (c.index p.j) p.worker.view (c.at p.j p.worker p.at) a met))
+  another_comes a p = of_deed (deed_in r crew c (EnteredByAnother a (c.view_at p.j).pass) (c.sound.anchors.deeds.met (c.index p.j) (c.view_at p.j) (c.at p.j p.worker p.at) a met))
     where
-      met : Contains p.worker.view.met a
+      met : Contains (c.view_at p.j).met a
       met = ((tells_at r crew c (λ earlier s. PrintsReaders r.setting.anchors earlier s a) p).busy p.so.looked p.so.other p.so.printed).met a p.so.at p.so.more
 
-      of_deed : DeedIn r crew c (EnteredByAnother a p.worker.view.pass) → AnotherComes r crew p.j a
+      of_deed : DeedIn r crew c (EnteredByAnother a (c.view_at p.j).pass) → AnotherComes r crew p.j a
       of_deed d = ⊎_elim
-          (λ (l : LineOf d.worker.served (IsDeedOf r d.worker.view d.deed)). record {
+          (λ (l : LineOf d.worker.served (IsDeedOf r (c.view_at d.j) d.deed)). record {
             comes = record {
               j = d.j;
               worker = d.worker;
@@ -232,7 +232,7 @@ module _ {X : Type 0} (r : Run X) (crew : List (Worker X)) (c : Closed r crew) w
               split = l.split;
               so = subst (λ b. ComesTo r.setting.anchors l.served.asked.request b) d.so.1 (l.so.entered d.so.0);
             };
-            another = λ same. d.so.2 (d.own ∙ ap (λ (w : Worker X). w.view.pass) (some-injective d.worker p.worker (sym d.at ∙ ap (get_elem? crew) same ∙ p.at)));
+            another = λ same. d.so.2 (d.own ∙ ap (λ j. (c.view_at j).pass) same);
           })
           (λ (l : (true ≡ true) × IsDeedOfEnd r.setting d.deed d.worker.served). absurd (l.1.entered d.so.0))
           d.line
@@ -243,20 +243,20 @@ module _ {X : Type 0} (r : Run X) (crew : List (Worker X)) (c : Closed r crew) w
   spent_bounds n p = (
     told.limit,
     ⊎_elim
-        (λ (q : (p.served.drew ≡ None) × HasItem p.worker.view Counted n).
-        let most = c.sound.anchors.drawn.looked (c.index p.j) p.worker.view (c.at p.j p.worker p.at) q.1.item q.1.among q.1.kind_is in
+        (λ (q : (p.served.drew ≡ None) × HasItem (c.view_at p.j) Counted n).
+        let most = c.sound.anchors.drawn.looked (c.index p.j) (c.view_at p.j) (c.at p.j p.worker p.at) q.1.item q.1.among q.1.kind_is in
         let is = q.1.found_is in
         let below = counter_below r crew c (λ earlier s. s.answer ≡ answer.Spent n) p q.0 told.offers in
         omega arith)
-        (λ (q : (p.served.drew ≡ Some (n + 1)) × HasItem p.worker.view Drew n).
-        let less = c.sound.anchors.drawn.drew (c.index p.j) p.worker.view (c.at p.j p.worker p.at) q.1.item q.1.among q.1.kind_is in
+        (λ (q : (p.served.drew ≡ Some (n + 1)) × HasItem (c.view_at p.j) Drew n).
+        let less = c.sound.anchors.drawn.drew (c.index p.j) (c.view_at p.j) (c.at p.j p.worker p.at) q.1.item q.1.among q.1.kind_is in
         let is = q.1.found_is in
         let most = counter_is r crew c in
         omega arith)
         told.found,
   )
     where
-      told : IsSpent p.worker.view p.served n
+      told : IsSpent (c.view_at p.j) p.served n
       told = (tells_at r crew c (λ earlier s. s.answer ≡ answer.Spent n) p).spent n p.so
 
   -- Refusals.
@@ -383,7 +383,7 @@ module _ {X : Type 0} (r : Run X) (crew : List (Worker X)) (c : Closed r crew) w
   bytes_stored y first url p = subst (λ u. AreFirstOnes r crew p.served.answer u (bytes_with p.earlier p.served)) same
       (record { body = r.body g.entry.offer; stored = stored; first_ones = g.first_ones; whole = g.whole })
     where
-      g : HasGiven r p.worker.view p.earlier p.served
+      g : HasGiven r (c.view_at p.j) p.earlier p.served
       g = (tells_at r crew c (λ earlier s. ReadsOf earlier s first url) p).given y p.so.reads
 
       same : g.url ≡ url
@@ -394,7 +394,7 @@ module _ {X : Type 0} (r : Run X) (crew : List (Worker X)) (c : Closed r crew) w
           cc
 
       url_is : r.url g.entry.offer ≡ g.url
-      url_is = g.url_is (some_place p.earlier p.served p.worker.view g p.so.some)
+      url_is = g.url_is (some_place p.earlier p.served (c.view_at p.j) g p.so.some)
 
       stored : IsStored r crew g.url (r.body g.entry.offer)
       stored = dite (dec_le (version_of g.first.opened) (opening_counter r.setting))
@@ -414,7 +414,7 @@ module _ {X : Type 0} (r : Run X) (crew : List (Worker X)) (c : Closed r crew) w
             );
           })
 
-  told_purged : (e : Epoch) (p : LineIn crew (λ earlier s. s.answer ≡ answer.Purged e)) → HasPurged r p.worker.view p.served e
+  told_purged : (e : Epoch) (p : LineIn crew (λ earlier s. s.answer ≡ answer.Purged e)) → HasPurged r (c.view_at p.j) p.served e
   told_purged e p = (tells_at r crew c (λ earlier s. s.answer ≡ answer.Purged e) p).purged e p.so
 
   pub purged_told : (e : Epoch) → LineIn crew (λ earlier s. s.answer ≡ answer.Purged e) → e.doom ≡ true

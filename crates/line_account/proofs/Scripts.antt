@@ -75,7 +75,7 @@ all_of k (l ∷ lines) =
     omega arith
 
 module _ {X : Type 0} (lines : List Line) where
-  from : (k : ℕ) (ws : List (Worker X)) → ((i : ℕ) (w : Worker X) → get_elem? ws i ≡ some w → in_order w.served ≡ filter (λ l. l.worker == k + i + 1) lines) → sum_by offered_by ws ≤ count_by (above k) lines
+  from : (k : ℕ) (ws : List Worker) → ((i : ℕ) (w : Worker) → get_elem? ws i ≡ some w → in_order w.served ≡ filter (λ l. l.worker == k + i + 1) lines) → sum_by offered_by ws ≤ count_by (above k) lines
   from k [] h = omega arith
   from k (w ∷ ws) h =
       let c = sum_by-cons offered_by w ws in
@@ -85,13 +85,13 @@ module _ {X : Type 0} (lines : List Line) where
       let split = one_worker k lines in
       omega arith
 
-  pub offered_within : (crew : List (Worker X)) → ServesScript lines crew → offered crew ≤ offering lines
+  pub offered_within : (crew : List Worker) → ServesScript lines crew → offered crew ≤ offering lines
   offered_within crew h =
       let f = from 0 crew (λ i w e. h i w e ∙ ap (λ n. filter (λ l. l.worker == n) lines) (omega arith)) in
       let a = all_of 0 lines in
       omega arith
 
-module _ {X : Type 0} (r : Run X) (lines : List Line) (crew : List (Worker X)) (c : Closed r crew) (h : ServesScript lines crew) where
+module _ {X : Type 0} (r : Run X) (lines : List Line) (crew : List Worker) (c : Closed r crew) (h : ServesScript lines crew) where
   pub version_within : (a x : ℕ) → BegunIn r crew a x → x ≤ opening_counter r.setting + offering lines
   version_within a x p = let b = bounded r crew c a x p in let m = b.1 in let o = offered_within lines crew h in omega arith
 

@@ -6,7 +6,7 @@ use Rattle.line_account.specs.Closing.{Closed, LineIn, Worker}
 use Rattle.line_account.specs.Stopping.{ReadsBehind, is_end, is_halted, is_other_url}
 use Rattle.line_account.proofs.Gathered.{tells_at}
 
-module _ {X : Type 0} (r : Run X) (crew : List (Worker X)) (c : Closed r crew) (tab : ℕ) where
+module _ {X : Type 0} (r : Run X) (crew : List Worker) (c : Closed r crew) (tab : ℕ) where
   pub ended_stays : (p : LineIn crew (λ earlier s. ReadsBehind is_end earlier s tab)) → p.served.answer ≡ answer.End []
   ended_stays p = (tells_at r crew c (λ earlier s. ReadsBehind is_end earlier s tab) p).behind_end tab p.so
 

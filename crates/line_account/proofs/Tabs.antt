@@ -46,7 +46,7 @@ opened_at_url earlier s first _ is e = absurd (let z : None ≡ Some first = e i
 at_anchor : (anchors : ℕ) (earlier : List Served) (s : Served) (a x : ℕ) → ReadsVersion anchors earlier s a x → IsAt anchors earlier s a
 at_anchor anchors earlier s a x so = record { url = so.anchor.url; named_is = opened_at_url earlier s so.first s.asked.request refl so.opened_is ∙ so.anchor.named_is; anchor = so.anchor.anchor }
 
-module _ {X : Type 0} (r : Run X) (crew : List (Worker X)) (c : Closed r crew) (a x : ℕ) where
+module _ {X : Type 0} (r : Run X) (crew : List Worker) (c : Closed r crew) (a x : ℕ) where
   pub part_same : (epoch : Epoch) → LineIn crew (λ earlier s. ReadsPart r.setting.anchors earlier s a x epoch) → version_of (epoch_number epoch) ≡ x
   part_same epoch p =
       let P : List Served → Served → Type 0 = λ earlier s. ReadsPart r.setting.anchors earlier s a x epoch in
@@ -70,7 +70,7 @@ module _ {X : Type 0} (r : Run X) (crew : List (Worker X)) (c : Closed r crew) (
     abbrev s : Served
     s = p.served
 
-    g : HasGiven r p.worker.view p.earlier s
+    g : HasGiven r (c.view_at p.j) p.earlier s
     g = (tells_at r crew c P p).given y p.so.reads
 
     first_is : p.so.of.first ≡ g.first
@@ -92,7 +92,7 @@ module _ {X : Type 0} (r : Run X) (crew : List (Worker X)) (c : Closed r crew) (
     front_old low = subst (λ (b : ℕ). IsFrontOfOld r b s.answer (bytes_with p.earlier s)) at_here (
         let below = subst (λ (n : ℕ). n ≤ opening_counter r.setting) version low in
         let offer = g.entry.old below in record {
-          there = old_kept r crew c here g.first.opened (inr (c.index p.j, p.worker.view, c.at p.j p.worker p.at, g.entry.seen)) g.entry.readable below;
+          there = old_kept r crew c here g.first.opened (inr (c.index p.j, c.view_at p.j, c.at p.j p.worker p.at, g.entry.seen)) g.entry.readable below;
           first_ones = g.first_ones ∙ ap (λ (o : ℕ). take (length (bytes_with p.earlier s)) (r.body o)) offer;
           whole = λ w. g.whole w ∙ ap r.body offer;
         })
@@ -117,17 +117,17 @@ sure_reads (answer.End bytes) h = tt
 sure_reads (answer.Halted bytes) h = tt
 sure_reads _ h = absurd h
 
-module _ {X : Type 0} (r : Run X) (crew : List (Worker X)) (c : Closed r crew) (y : IsTrue r.tells) (a x : ℕ) (url : List ℕ) (p : LineIn crew (λ earlier s. ReadsUnder r.setting.anchors earlier s a x url)) (q : LineIn crew (λ earlier s. ReadsOther r.setting.anchors earlier s a x url)) where
+module _ {X : Type 0} (r : Run X) (crew : List Worker) (c : Closed r crew) (y : IsTrue r.tells) (a x : ℕ) (url : List ℕ) (p : LineIn crew (λ earlier s. ReadsUnder r.setting.anchors earlier s a x url)) (q : LineIn crew (λ earlier s. ReadsOther r.setting.anchors earlier s a x url)) where
   abbrev Under : List Served → Served → Type 0
   Under earlier s = ReadsUnder r.setting.anchors earlier s a x url
 
   abbrev Other : List Served → Served → Type 0
   Other earlier s = ReadsOther r.setting.anchors earlier s a x url
 
-  given_under : HasGiven r p.worker.view p.earlier p.served
+  given_under : HasGiven r (c.view_at p.j) p.earlier p.served
   given_under = (tells_at r crew c Under p).given y (sure_reads p.served.answer p.so.sure)
 
-  turned : HasOther r q.worker.view q.earlier q.served
+  turned : HasOther r (c.view_at q.j) q.earlier q.served
   turned = (tells_at r crew c Other q).other y q.so.printed
 
   -- the entry of the one and of the other
@@ -154,11 +154,11 @@ module _ {X : Type 0} (r : Run X) (crew : List (Worker X)) (c : Closed r crew) (
 
   same_entry : given_under.entry.offer ≡ turned.entry.offer
   same_entry =
-      let mine = subst (λ (u : List ℕ). Contains p.worker.view.seen (Named (home_of u) x Offer given_under.entry.offer)) url_given
-      (subst (λ (n : ℕ). Contains p.worker.view.seen (Named (home_of given_under.url) n Offer given_under.entry.offer)) version_given given_under.entry.offered) in
-      let theirs = subst (λ (u : List ℕ). Contains q.worker.view.seen (Named (home_of u) x Offer turned.entry.offer)) url_turned
-      (subst (λ (n : ℕ). Contains q.worker.view.seen (Named (home_of turned.url) n Offer turned.entry.offer)) version_turned turned.entry.offered) in
-      c.sound.anchors.seen.agree (c.index p.j) (c.index q.j) p.worker.view q.worker.view (c.at p.j p.worker p.at) (c.at q.j q.worker q.at) (home_of url) x Offer given_under.entry.offer turned.entry.offer mine theirs
+      let mine = subst (λ (u : List ℕ). Contains (c.view_at p.j).seen (Named (home_of u) x Offer given_under.entry.offer)) url_given
+      (subst (λ (n : ℕ). Contains (c.view_at p.j).seen (Named (home_of given_under.url) n Offer given_under.entry.offer)) version_given given_under.entry.offered) in
+      let theirs = subst (λ (u : List ℕ). Contains (c.view_at q.j).seen (Named (home_of u) x Offer turned.entry.offer)) url_turned
+      (subst (λ (n : ℕ). Contains (c.view_at q.j).seen (Named (home_of turned.url) n Offer turned.entry.offer)) version_turned turned.entry.offered) in
+      c.sound.anchors.seen.agree (c.index p.j) (c.index q.j) (c.view_at p.j) (c.view_at q.j) (c.at p.j p.worker p.at) (c.at q.j q.worker q.at) (home_of url) x Offer given_under.entry.offer turned.entry.offer mine theirs
 
   pub never_both : ⊥
   never_both = turned.differs (ap r.url (sym same_entry) ∙ given_under.url_is (given_under.sure p.so.sure) ∙ url_given ∙ sym url_turned)

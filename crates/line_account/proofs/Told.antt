@@ -50,7 +50,7 @@ shown_of opened looked x answer.Met found h = absurd (let z : None ≡ Some x = 
 shown_of opened looked x answer.Unmet found h = absurd (let z : None ≡ Some x = h in cc)
 shown_of opened looked x answer.Tab found h = absurd (let z : None ≡ Some x = h in cc)
 
-module _ {X : Type 0} (r : Run X) (crew : List (Worker X)) (c : Closed r crew) where
+module _ {X : Type 0} (r : Run X) (crew : List Worker) (c : Closed r crew) where
   -- the line shows an epoch of the version
   record ShownWith (a x : ℕ) : Type 0 where
     epoch : ℕ
@@ -60,7 +60,7 @@ module _ {X : Type 0} (r : Run X) (crew : List (Worker X)) (c : Closed r crew) w
   shown_with : (a x : ℕ) → LineIn crew (λ earlier s. PrintsAlone r.setting.anchors earlier s a x) → ShownWith a x
   shown_with a x p =
       let told = tells_at r crew c (λ earlier s. PrintsAlone r.setting.anchors earlier s a x) p in
-      let h = shown_of p.served.opened p.served.looked x p.served.answer (reads r p.worker.view p.earlier p.served told) p.so.alone in
+      let h = shown_of p.served.opened p.served.looked x p.served.answer (reads r (c.view_at p.j) p.earlier p.served told) p.so.alone in
       record {
         epoch = h.epoch;
         version_is = h.version_is;

@@ -37,9 +37,9 @@ two_lines s t (y ∷ z ∷ v ∷ later) earlier x e = absurd (let n : [] ≡ v �
 one_url : (u v : List ℕ) → Some u ≡ Some v → u ≡ v
 one_url u v e = cc
 
-module _ {X : Type 0} (r : Run X) (script : List Line) (crew : List (Worker X)) (rules : KeepsRules r script crew) where
+module _ {X : Type 0} (r : Run X) (script : List Line) (crew : List Worker) (rules : KeepsRules r script crew) where
   -- a worker of the crew printed BEGUN on the tab 0, and nothing more of it than this list has
-  module _ (j : ℕ) (u : Worker X) (at : get_elem? crew j ≡ some u) (later : List Served) (b : Served) (served : u.served ≡ later ++ b ∷ []) (url : List ℕ) (body : Body) (x : ℕ)
+  module _ (j : ℕ) (u : Worker) (at : get_elem? crew j ≡ some u) (later : List Served) (b : Served) (served : u.served ≡ later ++ b ∷ []) (url : List ℕ) (body : Body) (x : ℕ)
       (bq : b.asked.request ≡ Begin 0 url body) (ba : b.answer ≡ answer.Begun x) where
     abbrev a : ℕ
     a = anchor_of (key_of url) r.setting.anchors
@@ -76,7 +76,7 @@ module _ {X : Type 0} (r : Run X) (script : List Line) (crew : List (Worker X)) 
     writes = λ i. cond (begins_there i) (Some b) (cond (ends 0 b.asked.request b.answer) None None)
 
     -- no `get` prints HIT of what was halted
-    no_hit : IsTrue r.tells → (l : ℕ) (w : Worker X) → get_elem? crew l ≡ some w → (g : Served) (bytes : List ℕ) → w.served ≡ g ∷ [] → g.asked.request ≡ Get url → g.answer ≡ answer.Hit x bytes → HaltedIn r crew a x → ⊥
+    no_hit : IsTrue r.tells → (l : ℕ) (w : Worker) → get_elem? crew l ≡ some w → (g : Served) (bytes : List ℕ) → w.served ≡ g ∷ [] → g.asked.request ≡ Get url → g.answer ≡ answer.Hit x bytes → HaltedIn r crew a x → ⊥
     no_hit y l w there g bytes ws gq ga halted = (rules.bodies y).not_halted a x hit high halted
       where
         hit : LineIn crew (λ earlier s. ReadsWhole r.setting.anchors earlier s a x)
@@ -99,7 +99,7 @@ module _ {X : Type 0} (r : Run X) (script : List Line) (crew : List (Worker X)) 
           };
         }
 
-module _ {X : Type 0} (r : Run X) (script : List Line) (u w : Worker X) (rules : KeepsRules r script (u ∷ w ∷ [])) (y : IsTrue r.tells) where
+module _ {X : Type 0} (r : Run X) (script : List Line) (u w : Worker) (rules : KeepsRules r script (u ∷ w ∷ [])) (y : IsTrue r.tells) where
   pub dropped_not_hit : (b d g : Served) (url bytes : List ℕ) (body : Body) (x : ℕ) → u.served ≡ d ∷ b ∷ [] → w.served ≡ g ∷ []
       → b.asked.request ≡ Begin 0 url body → b.answer ≡ answer.Begun x → d.asked.request ≡ DropTab 0 → d.answer ≡ answer.Dropped
       → g.asked.request ≡ Get url → g.answer ≡ answer.Hit x bytes → ⊥
@@ -194,7 +194,7 @@ module _ {X : Type 0} (r : Run X) (script : List Line) (u w : Worker X) (rules :
         };
       }))
 
-module _ {X : Type 0} (r : Run X) (script : List Line) (w : Worker X) (rules : KeepsRules r script (alone w)) where
+module _ {X : Type 0} (r : Run X) (script : List Line) (w : Worker) (rules : KeepsRules r script (alone w)) where
   abbrev line_in : (later : List Served) (s : Served) (earlier : List Served) → w.served ≡ later ++ s ∷ earlier → (P : List Served → Served → Type 0) → P earlier s → LineIn (alone w) P
   line_in later s earlier e P h = record { j = 0; worker = w; at = refl; later = later; served = s; earlier = earlier; split = e; so = h }
 
@@ -276,7 +276,7 @@ module _ {X : Type 0} (r : Run X) (script : List Line) (w : Worker X) (rules : K
     above = (rules.versions.bounds put_at x (line_in (s ∷ []) p [] is (λ earlier z. Begins r.setting.anchors z put_at x) (rules.versions.told put_at x put_begun))).0
 
     -- the line that began a version is the `put`
-    begun_by_put : (l : ℕ) (v : Worker X) → get_elem? (alone w) l ≡ some v → (later earlier : List Served) (z : Served) → v.served ≡ later ++ z ∷ earlier → Begins r.setting.anchors z here x → p ≡ z
+    begun_by_put : (l : ℕ) (v : Worker) → get_elem? (alone w) l ≡ some v → (later earlier : List Served) (z : Served) → v.served ≡ later ++ z ∷ earlier → Begins r.setting.anchors z here x → p ≡ z
     begun_by_put zero v at later earlier z split begins_it = ⊎_elim
         (λ (purge : s ≡ z). absurd (subst (λ (q : Request). Began q z.answer x) (ap (λ (y : Served). y.asked.request) (sym purge) ∙ sq) begins_it.began))
         (λ (put : p ≡ z). put)

@@ -57,11 +57,11 @@ none_written t s is = ap (λ (b : Bool). cond b (Some s) (cond (ends t s.asked.r
     same true = refl
     same false = refl
 
-module _ {X : Type 0} (r : Run X) (script : List Line) (crew : List (Worker X)) (rules : KeepsRules r script crew) where
-  abbrev line_in : (j : ℕ) (w : Worker X) → get_elem? crew j ≡ some w → (s : Served) → w.served ≡ s ∷ [] → (P : List Served → Served → Type 0) → P [] s → LineIn crew P
+module _ {X : Type 0} (r : Run X) (script : List Line) (crew : List Worker) (rules : KeepsRules r script crew) where
+  abbrev line_in : (j : ℕ) (w : Worker) → get_elem? crew j ≡ some w → (s : Served) → w.served ≡ s ∷ [] → (P : List Served → Served → Type 0) → P [] s → LineIn crew P
   line_in j w at s is P so = record { j = j; worker = w; at = at; later = []; served = s; earlier = []; split = is; so = so }
 
-  abbrev begun_there : (j : ℕ) (w : Worker X) → get_elem? crew j ≡ some w → (p : Served) (url : List ℕ) (body : Body) (x : ℕ) → w.served ≡ p ∷ [] → p.asked.request ≡ Put url body → TellsBegun (Put url body) p.answer x
+  abbrev begun_there : (j : ℕ) (w : Worker) → get_elem? crew j ≡ some w → (p : Served) (url : List ℕ) (body : Body) (x : ℕ) → w.served ≡ p ∷ [] → p.asked.request ≡ Put url body → TellsBegun (Put url body) p.answer x
       → TellsBegunIn r crew (home r url) x
   begun_there j w at p url body x is pq told = record {
     j = j;
@@ -75,13 +75,13 @@ module _ {X : Type 0} (r : Run X) (script : List Line) (crew : List (Worker X)) 
   }
 
   -- a version that a `put` began is above the counter of the opening
-  above : (j : ℕ) (w : Worker X) (at : get_elem? crew j ≡ some w) (p : Served) (url : List ℕ) (body : Body) (x : ℕ) (is : w.served ≡ p ∷ []) (pq : p.asked.request ≡ Put url body) (told : TellsBegun (Put url body) p.answer x)
+  above : (j : ℕ) (w : Worker) (at : get_elem? crew j ≡ some w) (p : Served) (url : List ℕ) (body : Body) (x : ℕ) (is : w.served ≡ p ∷ []) (pq : p.asked.request ≡ Put url body) (told : TellsBegun (Put url body) p.answer x)
       → opening_counter r.setting < x
   above j w at p url body x is pq told =
       let b = begun_there j w at p url body x is pq told in
       (rules.versions.bounds (home r url) x (record { j = j; worker = w; at = at; later = []; served = p; earlier = []; split = is; so = rules.versions.told (home r url) x b })).0
 
-module _ {X : Type 0} (r : Run X) (script : List Line) (w : Worker X) (rules : KeepsRules r script (alone w)) (s : Served) (is : w.served ≡ s ∷ []) (url : List ℕ) where
+module _ {X : Type 0} (r : Run X) (script : List Line) (w : Worker) (rules : KeepsRules r script (alone w)) (s : Served) (is : w.served ≡ s ∷ []) (url : List ℕ) where
   pub never_held : (body : Body) (held : Word) → opening_epoch r.setting (home r url) ≡ 0 → s.asked.request ≡ Put url body → s.answer ≡ answer.Busy held held
       → held.epoch ≡ record { version = 0; stage = stage.Freeing; doom = false } → ⊥
   never_held body held none sq sa of =
@@ -106,7 +106,7 @@ module _ {X : Type 0} (r : Run X) (script : List Line) (w : Worker X) (rules : K
       omega arith
 
   -- the line of the worker is this one
-  mine : (j : ℕ) (v : Worker X) → get_elem? (alone w) j ≡ some v → v.served ≡ s ∷ []
+  mine : (j : ℕ) (v : Worker) → get_elem? (alone w) j ≡ some v → v.served ≡ s ∷ []
   mine zero v at = sym (ap Worker.served (some-injective w v at)) ∙ is
   mine (suc j) v at = absurd (some-ne-none v (sym at))
 
@@ -161,7 +161,7 @@ refused_none t held (s ∷ earlier) all =
     same true = refl
     same false = refl
 
-module _ {X : Type 0} (r : Run X) (script : List Line) (crew : List (Worker X)) (rules : KeepsRules r script crew) (a x : ℕ) (held : Word)
+module _ {X : Type 0} (r : Run X) (script : List Line) (crew : List Worker) (rules : KeepsRules r script crew) (a x : ℕ) (held : Word)
     (all : (p : LineIn crew Any) → p.served.answer ≡ answer.Busy held held) where
   any_line : (P : List Served → Served → Type 0) → (p : LineIn crew P) → p.served.answer ≡ answer.Busy held held
   any_line P p = all (record { j = p.j; worker = p.worker; at = p.at; later = p.later; served = p.served; earlier = p.earlier; split = p.split; so = tt })
@@ -201,9 +201,9 @@ module _ {X : Type 0} (r : Run X) (script : List Line) (crew : List (Worker X)) 
         so = record { at = p.so; shown = busy p.served held (any_line (λ earlier s. IsAt r.setting.anchors earlier s a) p) };
       }
 
-module _ {X : Type 0} (r : Run X) (script : List Line) (u w : Worker X) (rules : KeepsRules r script (u ∷ w ∷ [])) (p g : Served) (us : u.served ≡ p ∷ []) (ws : w.served ≡ g ∷ [])
+module _ {X : Type 0} (r : Run X) (script : List Line) (u w : Worker) (rules : KeepsRules r script (u ∷ w ∷ [])) (p g : Served) (us : u.served ≡ p ∷ []) (ws : w.served ≡ g ∷ [])
     (url : List ℕ) (body : Body) (pq : p.asked.request ≡ Put url body) (gq : g.asked.request ≡ Get url) where
-  abbrev crew : List (Worker X)
+  abbrev crew : List Worker
   crew = u ∷ w ∷ []
 
   -- the `get` shows the epoch
@@ -220,7 +220,7 @@ module _ {X : Type 0} (r : Run X) (script : List Line) (u w : Worker X) (rules :
       omega arith
 
   -- a line of the two workers is one of these
-  ours : (j : ℕ) (v : Worker X) → get_elem? crew j ≡ some v → (v.served ≡ p ∷ []) ⊎ (v.served ≡ g ∷ [])
+  ours : (j : ℕ) (v : Worker) → get_elem? crew j ≡ some v → (v.served ≡ p ∷ []) ⊎ (v.served ≡ g ∷ [])
   ours zero v at = inl (sym (ap Worker.served (some-injective u v at)) ∙ us)
   ours (suc zero) v at = inr (sym (ap Worker.served (some-injective w v at)) ∙ ws)
   ours (suc (suc j)) v at = absurd (some-ne-none v (sym at))
@@ -245,7 +245,7 @@ module _ {X : Type 0} (r : Run X) (script : List Line) (u w : Worker X) (rules :
     gave_up z (inl h) gave = let n : false ≡ true = sym (ap gives_up pa) ∙ ap (λ (y : Served). gives_up y.answer) h ∙ gave in cc
     gave_up z (inr h) gave = let n : false ≡ true = sym (ap gives_up ga) ∙ ap (λ (y : Served). gives_up y.answer) h ∙ gave in cc
 
-    nothing_written : (t : ℕ) (v : Worker X) → (v.served ≡ p ∷ []) ⊎ (v.served ≡ g ∷ []) → writing t v.served ≡ None
+    nothing_written : (t : ℕ) (v : Worker) → (v.served ≡ p ∷ []) ⊎ (v.served ≡ g ∷ []) → writing t v.served ≡ None
     nothing_written t v (inl h) = ap (writing t) h ∙ none_written t p (ap (λ (q : Request). begins t q p.answer) pq)
     nothing_written t v (inr h) = ap (writing t) h ∙ none_written t g (ap (λ (q : Request). begins t q g.answer) gq)
 
@@ -269,7 +269,7 @@ module _ {X : Type 0} (r : Run X) (script : List Line) (u w : Worker X) (rules :
 
 -- Entries of the file, in a run that fits.
 
-module _ {X : Type 0} (r : Run X) (script : List Line) (u w : Worker X) (rules : KeepsRules r script (u ∷ w ∷ [])) (fit : IsTrue r.fits) (s : Served) (is : w.served ≡ s ∷ []) (url : List ℕ) (x : ℕ)
+module _ {X : Type 0} (r : Run X) (script : List Line) (u w : Worker) (rules : KeepsRules r script (u ∷ w ∷ [])) (fit : IsTrue r.fits) (s : Served) (is : w.served ≡ s ∷ []) (url : List ℕ) (x : ℕ)
     (low : x ≤ opening_counter r.setting) where
   pub never_lost : s.asked.request ≡ Get url → s.answer ≡ answer.Miss (Absent (record { version = x; stage = stage.Gone; doom = false })) → ⊥
   never_lost sq sa =

@@ -24,7 +24,7 @@ use Rattle.line_account.specs.Printed.{ReadsVersion}
 use Rattle.line_account.specs.Stopping.{ReadsBehind, answered_more, answers_more, is_end, is_halted, is_other_url}
 use Rattle.line_account.specs.Rules.{KeepsRules}
 
-module _ {X : Type 0} (r : Run X) (script : List Line) (u v w : Worker X) (rules : KeepsRules r script (u ∷ v ∷ w ∷ [])) (p a b c d g : Served) (us : u.served ≡ a ∷ p ∷ []) (vs : v.served ≡ c ∷ b ∷ []) (ws : w.served ≡ g ∷ d ∷ [])
+module _ {X : Type 0} (r : Run X) (script : List Line) (u v w : Worker) (rules : KeepsRules r script (u ∷ v ∷ w ∷ [])) (p a b c d g : Served) (us : u.served ≡ a ∷ p ∷ []) (vs : v.served ≡ c ∷ b ∷ []) (ws : w.served ≡ g ∷ d ∷ [])
     (m n : ℕ) (aq : a.asked.request ≡ Mark m) (bq : b.asked.request ≡ Await m) (ba : b.answer ≡ answer.Met) (cq : c.asked.request ≡ Mark n) (dq : d.asked.request ≡ Await n) (da : d.answer ≡ answer.Met) where
   -- the third worker knew of the line by the second one
   told_on : KnewOf (u ∷ v ∷ w ∷ []) (d ∷ []) p []
@@ -45,7 +45,7 @@ module _ {X : Type 0} (r : Run X) (script : List Line) (u v w : Worker X) (rules
       let below : epoch_at x 3 ≤ epoch_number none = order.epochs (epoch_number none) (subst (λ (z : Answer). Contains (printed z) (epoch_number none)) (sym ga) (0, omega arith, refl)) in
       omega arith
 
-module _ {X : Type 0} (r : Run X) (script : List Line) (w : Worker X) (rules : KeepsRules r script (alone w)) where
+module _ {X : Type 0} (r : Run X) (script : List Line) (w : Worker) (rules : KeepsRules r script (alone w)) where
   -- what the later line of two prints is not below what the earlier one counts as
   in_order : (s t : Served) (url : List ℕ) (e : ℕ) → w.served ≡ t ∷ s ∷ [] → url_at [] s.asked.request ≡ Some url → url_at (s ∷ []) t.asked.request ≡ Some url → Contains (counts_as s.answer) e → NotBelow e t.answer
   in_order s t url e is first second counts = rules.order.known (home r url) e s []

@@ -40,9 +40,9 @@ one_url u v e = cc
 one_body : (u v : Body) → u ≡ v → bytes_of u ≡ bytes_of v
 one_body u v e = ap bytes_of e
 
-module _ {X : Type 0} (r : Run X) (script : List Line) (w : Worker X) (rules : KeepsRules r script (alone w)) where
+module _ {X : Type 0} (r : Run X) (script : List Line) (w : Worker) (rules : KeepsRules r script (alone w)) where
   -- the worker is this one
-  same_lines : (l : ℕ) (v : Worker X) → get_elem? (alone w) l ≡ some v → w.served ≡ v.served
+  same_lines : (l : ℕ) (v : Worker) → get_elem? (alone w) l ≡ some v → w.served ≡ v.served
   same_lines zero v at = ap Worker.served (some-injective w v at)
   same_lines (suc l) v at = absurd (some-ne-none v (sym at))
 
@@ -72,7 +72,7 @@ module _ {X : Type 0} (r : Run X) (script : List Line) (w : Worker X) (rules : K
   module _ (p s : Served) (url other : List ℕ) (body : Body) (x : ℕ) (is : w.served ≡ s ∷ p ∷ []) (pq : p.asked.request ≡ Put other body)
       (pa : p.answer ≡ answer.Stored x)
       (sq : s.asked.request ≡ OpenTab 0 url) (sa : s.answer ≡ answer.Opened x) where
-    begun_by_put : (l : ℕ) (v : Worker X) → get_elem? (alone w) l ≡ some v → (later earlier : List Served) (z : Served)
+    begun_by_put : (l : ℕ) (v : Worker) → get_elem? (alone w) l ≡ some v → (later earlier : List Served) (z : Served)
         → v.served ≡ later ++ z ∷ earlier → Begins r.setting.anchors z (home r url) x → p ≡ z
     begun_by_put l v at later earlier z split begins_it = ⊎_elim
         (λ (opening : s ≡ z). absurd (subst (λ (q : Request). Began q z.answer x) (ap (λ (y : Served). y.asked.request) (sym opening) ∙ sq) begins_it.began))
@@ -113,7 +113,7 @@ module _ {X : Type 0} (r : Run X) (script : List Line) (w : Worker X) (rules : K
     }
 
     -- the line that began the version is the `put`
-    begun_by : (l : ℕ) (v : Worker X) → get_elem? (alone w) l ≡ some v → (later earlier : List Served) (z : Served)
+    begun_by : (l : ℕ) (v : Worker) → get_elem? (alone w) l ≡ some v → (later earlier : List Served) (z : Served)
         → v.served ≡ later ++ z ∷ earlier → Begins r.setting.anchors z here x → p ≡ z
     begun_by l v at later earlier z split begins_it = ⊎_elim
         (λ (more : m ≡ z). absurd (subst (λ (q : Request). Began q z.answer x) (ap (λ (y : Served). y.asked.request) (sym more) ∙ mq) begins_it.began))

@@ -53,7 +53,7 @@ one_told (Save url body) a x y h g = one_ended a x y h g
 one_told (Begin tab url body) a x y h g = one_on_tab a x y h g
 one_told _ a x y h g = absurd h
 
-module _ {X : Type 0} (r : Run X) (crew : List (Worker X)) (c : Closed r crew) where
+module _ {X : Type 0} (r : Run X) (crew : List Worker) (c : Closed r crew) where
   pub begun_once : (a b x : ℕ) (p : BegunIn r crew a x) (q : BegunIn r crew b x) → IsSameLine crew (λ earlier s. Begins r.setting.anchors s a x) (λ earlier s. Begins r.setting.anchors s b x) p q
   begun_once a b x p q = one_line r crew c (λ earlier s. Begins r.setting.anchors s a x) (λ earlier s. Begins r.setting.anchors s b x) p q x p.so.drew q.so.drew
 

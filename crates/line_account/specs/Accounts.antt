@@ -1,5 +1,6 @@
 -- The account of a worker: what it knows, and which line each of its deeds belongs to.
-use Rattle.std.specs.Prelude.{Bool, IsTrue, List, None, Some, [], count_by, false, length, true, ◌+◌, ◌<◌, ◌∷◌, ◌↔◌, ◌≡◌, ◌≢◌, ◌⊎◌, Contains, ℕ}
+use Rattle.std.specs.Prelude.{Bool, IsTrue, List, None, Some, [], count_by, false, length, true, ◌+◌, ◌<◌, ◌∷◌, ◌↔◌, ◌≡◌, ◌≢◌, ◌⊎◌}
+use Rattle.std.specs.Prelude.{Contains, ℕ}
 use Rattle.lock_word.specs.Words.{epoch_number, version_of}
 use Rattle.lock_word.specs.declared.cause.Cause.{Cause}
 use Rattle.lock_word.specs.declared.cause.Cause.TheVariants.{Absent, Leaving, OtherKey, Writing}
@@ -19,7 +20,8 @@ use Rattle.line_account.specs.Lines.{Fits, IsAt, Offers, Served, Writes, gives_u
 use Rattle.line_account.specs.Requests.{IsAnswerTo}
 use Rattle.line_account.specs.Stopping.{ReadsBehind, is_end, is_halted, is_other_url}
 use Rattle.line_account.specs.Deeds.{Began, Grows, HasLine, IsWriting}
-use Rattle.line_account.specs.Answers.{ComesIn, HasAdded, HasGiven, HasHit, HasOpened, HasOther, HasPurged, IsBusy, IsCauseOf, IsKeyRead, IsLarge, IsLong, IsOfOpened, IsSmall, IsSpent, Reads, Refuses, Run}
+use Rattle.line_account.specs.Answers.{ComesIn, HasAdded, HasGiven, HasHit, HasOpened, HasOther, HasPurged, IsBusy, IsCauseOf, IsKeyRead}
+use Rattle.line_account.specs.Answers.{IsLarge, IsLong, IsOfOpened, IsSmall, IsSpent, Reads, Refuses, Run}
 use Rattle.lock_word.specs.declared.stage.Stage.TheVariants.{Appending, Closed, Halted, Taken}
 use Rattle.line_account.specs.EpochNames.{IsAtStage, closed_and_doomed, undoomed_at}
 use Rattle.line_account.specs.ScriptOrder.{◌followed_by◌, ◌then◌}
@@ -50,7 +52,9 @@ epochs_of opened looked _ = []
 
 -- the line shows the epoch e at the anchor a
 pub record Shows (anchors : ℕ) (earlier : List Served) (s : Served) (a e : ℕ) : Type 0 where
+  -- the line is at work there
   pub at : IsAt anchors earlier s a
+  -- and its answer shows the epoch
   pub shown : Contains (epochs_of s.opened s.looked s.answer) e
 
 -- the version that a line drew, which it then began

@@ -19,7 +19,7 @@ use Rattle.lock_word.specs.declared.stage.Stage.TheVariants.{Closed, Taken}
 use Rattle.line_account.specs.EpochNames.{undoomed_at}
 
 -- a worker alone
-abbrev pub alone : {X : Type 0} → Worker X → List (Worker X)
+abbrev pub alone : Worker → List Worker
 alone w = w ∷ []
 
 -- the body of no bytes

@@ -1,5 +1,6 @@
 -- What the answer to a line tells of the words and of the entry that the line found.
-use Rattle.std.specs.Prelude.{Bool, List, None, Option, Some, [], count_by, false, length, min, slice_index_or, take, true, ◌*◌, ◌+◌, ◌-◌, ◌<◌, ◌==◌, ◌≡◌, ◌≢◌, ◌≤◌, ◌⊎◌, Contains, ℕ}
+use Rattle.std.specs.Prelude.{Bool, List, None, Option, Some, [], count_by, false, length, min, slice_index_or, take, true, ◌*◌, ◌+◌, ◌-◌}
+use Rattle.std.specs.Prelude.{◌<◌, ◌==◌, ◌≡◌, ◌≢◌, ◌≤◌, ◌⊎◌, Contains, ℕ}
 use Rattle.std.specs.List.{range_with_len}
 use Rattle.store_key.specs.Anchor.{anchor_of, back_half, front_half}
 use Rattle.store_key.specs.Key.{key_of}
@@ -35,11 +36,17 @@ use Rattle.line_account.specs.ScriptOrder.{◌then◌}
 -- not tell what they hold, nothing is said of bytes. A run fits where the slots suffice for the most that each anchor ever holds: then
 -- none is wanting.
 pub record Run (X : Type 0) : Type 0 where
+  -- how many anchors, slots and passes the store has, and what it had at the opening
   pub setting : Setting X
+  -- how many bytes of a content a slot takes
   pub room : ℕ
+  -- whether something is said of bytes
   pub tells : Bool
+  -- whether the slots suffice for the most that each anchor ever holds
   pub fits : Bool
+  -- the URL of each offer
   pub url : ℕ → List ℕ
+  -- and its body
   pub body : ℕ → List ℕ
 
 -- a step of this worker, of this kind, found the number n
@@ -71,13 +78,18 @@ readers_at anchors served a = count_by (λ t. reads_at anchors a (reading t serv
 
 -- somebody holds the anchor, whose word was found the same twice
 pub record IsHeld (looked other : Word) : Type 0 where
+  -- both words are the same
   pub same : other ≡ looked
+  -- the anchor was not vacant
   pub vacant : is_vacant (word_number looked) ≡ false
+  -- nor idle
   pub idle : is_idle (word_number looked) ≡ false
 
 -- nobody held the anchor, and then its word was found to be another one
 pub record IsOvertaken (looked other : Word) : Type 0 where
+  -- at the first look it was vacant or idle
   pub able : (is_vacant (word_number looked) ≡ true) ⊎ (is_idle (word_number looked) ≡ true)
+  -- at the second one its word was another one
   pub differs : other ≢ looked
 
 pub record IsBusy {X : Type 0} (r : Run X) (v : View X) (earlier : List Served) (s : Served) (looked other : Word) : Type 0 where
@@ -90,9 +102,13 @@ pub record IsBusy {X : Type 0} (r : Run X) (v : View X) (earlier : List Served) 
 
 -- LONGURL
 pub record IsLong {X : Type 0} (r : Run X) (s : Served) : Type 0 where
+  -- the URL
   pub url : List ℕ
+  -- of the line
   pub named : url_in s.asked.request ≡ Some url
+  -- its metadata leave no room in a slot
   pub long : r.room < 32 + length url
+  -- and no version was drawn
   pub drew : s.drew ≡ None
 
 -- LARGE: the body of this line, or of the one that began its tab's writing, needs more slots than an entry may have
@@ -121,9 +137,13 @@ Refuses _ cause = ⊥
 
 -- it is the cause at the epoch that it tells, for a key that is kept there, where that of the line's URL is wanted
 pub record IsCauseOf (s : Served) (epoch : Epoch) (cause : Cause) : Type 0 where
+  -- the URL
   pub url : List ℕ
+  -- of the line
   pub named : url_in s.asked.request ≡ Some url
+  -- the key that is kept at the anchor
   pub kept : List ℕ
+  -- by the epoch and the two keys this is the cause
   pub judged : cause_of epoch kept (key_of url) ≡ Some cause
 
 -- the key that was read beside the anchor a, at this epoch

@@ -7,9 +7,10 @@ use Rattle.core_model.specs.Anchors.{opening_counter}
 use Rattle.line_account.specs.Answers.{Run, bytes_with}
 use Rattle.line_account.specs.Closing.{HaltedIn, LineIn, Worker}
 use Rattle.line_account.specs.Lines.{Served}
-use Rattle.line_account.specs.Printed.{AreFirstOnes, Finds, FinishedIn, HadEntry, HitIn, IsBodyAsPrinted, IsKeyOfLine, IsOldBody, IsOldUrl, KeyIn, ReadsOf, ReadsWhole}
+use Rattle.line_account.specs.Printed.{AreFirstOnes, Finds, FinishedIn, HadEntry, HitIn, IsBodyAsPrinted, IsKeyOfLine, IsOldBody, IsOldUrl}
+use Rattle.line_account.specs.Printed.{KeyIn, ReadsOf, ReadsWhole}
 
-module _ {X : Type 0} (r : Run X) (crew : List (Worker X)) where
+module _ {X : Type 0} (r : Run X) (crew : List Worker) where
   -- of a run that tells of bytes
   pub record HaveBodies : Type 0 where
     -- a HIT of a version of the opening has the whole body of the entry that the anchor had then, under its URL

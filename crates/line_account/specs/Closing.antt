@@ -18,9 +18,9 @@ use Rattle.lock_word.specs.declared.stage.Stage.TheVariants.{Halted}
 use Rattle.line_account.specs.EpochNames.{IsAtStage}
 use Rattle.line_account.specs.ScriptOrder.{◌followed_by◌, ◌then◌}
 
--- a worker at the end: what it holds and knows, and the lines that it served
-pub record Worker (X : Type 0) : Type 0 where
-  pub view : View X
+-- a worker, by the lines that it served
+pub record Worker : Type 0 where
+  -- in the order of the script, as `then` writes lists of lines
   pub served : List Served
 
 -- An entry that was halted was never whole: where a version was seen at HALTED, a number of its slots were seen published, and the offer of
@@ -32,95 +32,123 @@ pub record HaltedShort {X : Type 0} (r : Run X) (s : State X) : Type 0 where
       → Contains w.seen (Named a (version_of e) Offer (r.setting.slots + number))
       → many * r.room < 32 + length (r.url (r.setting.slots + number)) + length (r.body (r.setting.slots + number))
 
--- The workers ended. Their views stand in one sound state, where what was halted was never whole. No two are at the same place, there are
--- as many as passes, and each has its account.
-pub record Closed {X : Type 0} (r : Run X) (crew : List (Worker X)) : Type 0 where
+-- The workers ended. The views at which their lines ended stand in one sound state, where what was halted was never whole. No two are at
+-- the same place, there are as many as passes, and each worker has its account.
+pub record Closed {X : Type 0} (r : Run X) (crew : List Worker) : Type 0 where
   pub state : State X
   pub sound : Sound r.setting state
   pub halted : HaltedShort r state
+  -- what each worker held and knew at its end
+  pub view_at : ℕ → View X
   pub index : ℕ → ℕ
-  pub at : (j : ℕ) (w : Worker X) → get_elem? crew j ≡ some w → get_elem? state.views (index j) ≡ some w.view
-  pub apart : (j l : ℕ) (w x : Worker X) → get_elem? crew j ≡ some w → get_elem? crew l ≡ some x → index j ≡ index l → j ≡ l
+  pub at : (j : ℕ) (w : Worker) → get_elem? crew j ≡ some w → get_elem? state.views (index j) ≡ some (view_at j)
+  pub apart : (j l : ℕ) (w x : Worker) → get_elem? crew j ≡ some w → get_elem? crew l ≡ some x → index j ≡ index l → j ≡ l
   pub count : length crew ≡ r.setting.passes
-  pub passes : (j : ℕ) (w : Worker X) → get_elem? crew j ≡ some w → IsPass w.view
-  pub accounts : (j : ℕ) (w : Worker X) → get_elem? crew j ≡ some w → Account r w.view w.served true
+  pub passes : (j : ℕ) (w : Worker) → get_elem? crew j ≡ some w → IsPass (view_at j)
+  pub accounts : (j : ℕ) (w : Worker) → get_elem? crew j ≡ some w → Account r (view_at j) w.served true
 
 -- a line of one of the workers, of which P holds, given the lines of the same worker before it
-pub record LineIn {X : Type 0} (crew : List (Worker X)) (P : List Served → Served → Type 0) : Type 0 where
+pub record LineIn (crew : List Worker) (P : List Served → Served → Type 0) : Type 0 where
+  -- the number of a worker, from 0 on
   pub j : ℕ
-  pub worker : Worker X
+  -- the worker
+  pub worker : Worker
+  -- which has this number
   pub at : get_elem? crew j ≡ some worker
+  -- the lines that it served before
   pub earlier : List Served
+  -- the line
   pub served : Served
+  -- the lines behind it
   pub later : List Served
+  -- these are all its lines
   pub split : worker.served ≡ earlier then served followed_by later
+  -- P holds of the line
   pub so : P earlier served
 
 -- they are lines of the same worker, with as many lines before them
-pub record IsSameLine {X : Type 0} (crew : List (Worker X)) (P Q : List Served → Served → Type 0) (p : LineIn crew P) (q : LineIn crew Q)
+pub record IsSameLine (crew : List Worker) (P Q : List Served → Served → Type 0) (p : LineIn crew P) (q : LineIn crew Q)
     : Type 0 where
+  -- of one worker
   pub worker : p.j ≡ q.j
+  -- with as many lines before them
   pub place : length p.earlier ≡ length q.earlier
 
 -- how many of the lines offer a body
-abbrev pub offered_by : {X : Type 0} → Worker X → ℕ
+abbrev pub offered_by : Worker → ℕ
 offered_by w = count_by (λ s. offers s.asked.request) w.served
 
-abbrev pub offered : {X : Type 0} → List (Worker X) → ℕ
+abbrev pub offered : List Worker → ℕ
 offered crew = sum_by offered_by crew
 
 -- a line began the version x at the anchor a
-abbrev pub BegunIn : {X : Type 0} → Run X → List (Worker X) → (a x : ℕ) → Type 0
+abbrev pub BegunIn : {X : Type 0} → Run X → List Worker → (a x : ℕ) → Type 0
 BegunIn r crew a x = LineIn crew (λ earlier s. Begins r.setting.anchors s a x)
 
 -- a line printed that it began the version x at the anchor a
-abbrev pub TellsBegunIn : {X : Type 0} → Run X → List (Worker X) → (a x : ℕ) → Type 0
+abbrev pub TellsBegunIn : {X : Type 0} → Run X → List Worker → (a x : ℕ) → Type 0
 TellsBegunIn r crew a x = LineIn crew (λ earlier s. PrintsBegunVersion r.setting.anchors s a x)
 
 -- a line shows the epoch e at the anchor a
-abbrev pub ShownIn : {X : Type 0} → Run X → List (Worker X) → (a e : ℕ) → Type 0
+abbrev pub ShownIn : {X : Type 0} → Run X → List Worker → (a e : ℕ) → Type 0
 ShownIn r crew a e = LineIn crew (λ earlier s. Shows r.setting.anchors earlier s a e)
 
 -- a line that writes the version x at the anchor a printed that it is stored
 pub record Stores (anchors : ℕ) (earlier : List Served) (s : Served) (a x : ℕ) : Type 0 where
+  -- the line writes the version there
   pub writes : Writes anchors earlier s a x
+  -- it printed STORED with it
   pub printed : s.answer ≡ answer.Stored x
 
-abbrev pub StoredIn : {X : Type 0} → Run X → List (Worker X) → (a x : ℕ) → Type 0
+abbrev pub StoredIn : {X : Type 0} → Run X → List Worker → (a x : ℕ) → Type 0
 StoredIn r crew a x = LineIn crew (λ earlier s. Stores r.setting.anchors earlier s a x)
 
 -- a worker still wrote the version x at the anchor a when it came to its end
-pub record HaltedAtEnd {X : Type 0} (r : Run X) (crew : List (Worker X)) (a x : ℕ) : Type 0 where
+pub record HaltedAtEnd {X : Type 0} (r : Run X) (crew : List Worker) (a x : ℕ) : Type 0 where
+  -- the number of a worker, from 0 on
   pub j : ℕ
-  pub worker : Worker X
+  -- the worker
+  pub worker : Worker
+  -- which has this number
   pub at : get_elem? crew j ≡ some worker
+  -- a tab of it still writes the version behind its last line
   pub writing : IsWriting r.setting.anchors worker.served a x
 
 -- the writing of the version x at the anchor a was halted, by a line or by the end
-abbrev pub HaltedIn : {X : Type 0} → Run X → List (Worker X) → (a x : ℕ) → Type 0
+abbrev pub HaltedIn : {X : Type 0} → Run X → List Worker → (a x : ℕ) → Type 0
 HaltedIn r crew a x = LineIn crew (λ earlier s. Halts r.setting.anchors earlier s a x) ⊎ HaltedAtEnd r crew a x
 
 -- a line purged the version x at the anchor a
 pub record PurgesVersion (anchors : ℕ) (s : Served) (a x : ℕ) : Type 0 where
+  -- an epoch
   pub epoch : ℕ
+  -- that the line left doomed
   pub purges : Purges anchors s a epoch
+  -- of this version
   pub version_is : version_of epoch ≡ x
 
-abbrev pub PurgedIn : {X : Type 0} → Run X → List (Worker X) → (a x : ℕ) → Type 0
+abbrev pub PurgedIn : {X : Type 0} → Run X → List Worker → (a x : ℕ) → Type 0
 PurgedIn r crew a x = LineIn crew (λ earlier s. PurgesVersion r.setting.anchors s a x)
 
 -- a line at the anchor a printed HALTED
 pub record PrintsHalted (anchors : ℕ) (earlier : List Served) (s : Served) (a : ℕ) : Type 0 where
+  -- the line is at work there
   pub at : IsAt anchors earlier s a
+  -- with these bytes
   pub bytes : List ℕ
+  -- it printed HALTED
   pub printed : s.answer ≡ answer.Halted bytes
 
 -- a line at the anchor a printed DOOMED with the version x
 pub record PrintsDoomed (anchors : ℕ) (earlier : List Served) (s : Served) (a x : ℕ) : Type 0 where
+  -- the line is at work there
   pub at : IsAt anchors earlier s a
+  -- it printed DOOMED with the version
   pub printed : s.answer ≡ answer.Doomed x
 
 -- some version at the anchor a was halted
-pub record SomeHalted {X : Type 0} (r : Run X) (crew : List (Worker X)) (a : ℕ) : Type 0 where
+pub record SomeHalted {X : Type 0} (r : Run X) (crew : List Worker) (a : ℕ) : Type 0 where
+  -- a version
   pub version : ℕ
+  -- whose writing there was halted
   pub halted : HaltedIn r crew a version

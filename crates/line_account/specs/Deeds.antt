@@ -36,8 +36,11 @@ Comes request url = of_shape (shape_of request)
     of_shape (Shape.AtMark mark) = ⊥
 
 pub record ComesTo (anchors : ℕ) (request : Request) (a : ℕ) : Type 0 where
+  -- a URL
   pub url : List ℕ
+  -- that the request comes to
   pub comes : Comes request url
+  -- whose anchor it is
   pub anchor : a ≡ anchor_of (key_of url) anchors
 
 -- the answers to a line that began a writing on a tab, of the version x
@@ -80,8 +83,11 @@ Began request a x = of_shape (shape_of request)
 
 -- a line that began the version x at the anchor a
 pub record Begins (anchors : ℕ) (s : Served) (a x : ℕ) : Type 0 where
+  -- the URL of the line has this anchor
   pub anchor : IsAnchorOf anchors (url_in s.asked.request) a
+  -- the line drew the version
   pub drew : s.drew ≡ Some x
+  -- it offers a body, and its answer is that of a line which began the version
   pub began : Began s.asked.request s.answer x
 
 -- the answers to a line that began and ended a writing which tell its version
@@ -106,7 +112,9 @@ TellsBegun request a x = of_shape (shape_of request)
 
 -- a line printed that it began the version x at the anchor a
 pub record PrintsBegunVersion (anchors : ℕ) (s : Served) (a x : ℕ) : Type 0 where
+  -- the URL of the line has this anchor
   pub anchor : IsAnchorOf anchors (url_in s.asked.request) a
+  -- its answer tells that it began the version
   pub told : TellsBegun s.asked.request s.answer x
 
 -- The answers to a line that came so far that it needed slots, and may have had to evict an entry for one: STORED, DOOMED, ADDED, FULL,
@@ -145,16 +153,24 @@ pub record Finishes (a : Answer) (e : ℕ) : Type 0 where
 
 -- a line that gave up its writing of the version x at the anchor a
 pub record Halts (anchors : ℕ) (earlier : List Served) (s : Served) (a x : ℕ) : Type 0 where
+  -- the line writes the version there
   pub writes : Writes anchors earlier s a x
+  -- it printed FULL, LARGE, FAULT or DROPPED
   pub gave_up : gives_up s.answer ≡ true
 
 -- a line that purged the entry at the anchor a, and left this epoch
 pub record Purges (anchors : ℕ) (s : Served) (a e : ℕ) : Type 0 where
+  -- a URL
   pub url : List ℕ
+  -- that the line purges
   pub request : s.asked.request ≡ Purge url
+  -- whose anchor it is
   pub anchor : a ≡ anchor_of (key_of url) anchors
+  -- the epoch that is printed
   pub epoch : Epoch
+  -- by PURGED
   pub answered : s.answer ≡ answer.Purged epoch
+  -- as a number
   pub epoch_is : epoch_number epoch ≡ e
 
 -- The deed belongs to the line s, which has these before it; v is what its worker knows. It entered an anchor, or changed, raised or
@@ -174,7 +190,9 @@ pub record IsDeedOf {X : Type 0} (r : Run X) (v : View X) (d : Deed) (earlier : 
 
 -- some tab writes the version x at the anchor a after these lines
 pub record IsWriting (anchors : ℕ) (served : List Served) (a x : ℕ) : Type 0 where
+  -- a tab
   pub tab : ℕ
+  -- whose writing was begun there with the version
   pub writes : IsWritingOf anchors (writing tab served) a x
 
 -- The deed belongs to the end, at which the worker closed the tabs that read and gave up those that wrote.

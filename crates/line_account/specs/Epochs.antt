@@ -5,13 +5,14 @@ use Rattle.lock_word.specs.declared.epoch.Epoch.{Epoch}
 use Rattle.script_text.specs.declared.answer.Answer.TheVariants as answer
 use Rattle.core_model.specs.Anchors.{opening_counter, opening_epoch}
 use Rattle.line_account.specs.Answers.{Run}
-use Rattle.line_account.specs.Closing.{BegunIn, HaltedIn, LineIn, PrintsDoomed, PrintsHalted, PurgedIn, ShownIn, SomeHalted, StoredIn, Worker}
+use Rattle.line_account.specs.Closing.{BegunIn, HaltedIn, LineIn, PrintsDoomed, PrintsHalted, PurgedIn, ShownIn, SomeHalted, StoredIn}
+use Rattle.line_account.specs.Closing.{Worker}
 use Rattle.line_account.specs.Order.{PrintsAlone}
 use Rattle.line_account.specs.Printed.{Finds, GivenBackIn, HadEntry}
 use Rattle.lock_word.specs.declared.stage.Stage.TheVariants.{Appending, Closed, Empty, Freeing, Halted, Taken}
 use Rattle.line_account.specs.EpochNames.{IsAtStage, IsDoomed, IsFromStage, IsUndoomed, IsUpToStage}
 
-module _ {X : Type 0} (r : Run X) (crew : List (Worker X)) where
+module _ {X : Type 0} (r : Run X) (crew : List Worker) where
   pub record EpochsHaveCauses : Type 0 where
     -- An epoch with a version of the opening is one of its anchor's entry of then, and not at TAKEN, APPENDING or HALTED:
     pub old : (a e : ℕ) → ShownIn r crew a e → version_of e ≤ opening_counter r.setting
@@ -54,8 +55,8 @@ module _ {X : Type 0} (r : Run X) (crew : List (Worker X)) where
     -- and it is at APPENDING, CLOSED or HALTED
     pub purged_stage : (e : Epoch) → LineIn crew (λ earlier s. s.answer ≡ answer.Purged e)
         → IsFromStage Appending (epoch_number e) × IsUpToStage Halted (epoch_number e)
-    -- An epoch at HALTED, FREEING or GONE is not doomed only where the writing of its version was halted; or the run does not fit, some line
-    -- may have evicted an entry, for it printed STORED, DOOMED, ADDED, FULL, LARGE or FAULT, and its own was whole.
+    -- An epoch at HALTED, FREEING or GONE is not doomed only where the writing of its version was halted; or the run does not fit, some
+    -- line may have evicted an entry, for it printed STORED, DOOMED, ADDED, FULL, LARGE or FAULT, and its own was whole.
     pub given_back : (a e : ℕ) → ShownIn r crew a e → IsUndoomed e → IsFromStage Halted e → GivenBackIn r crew a (version_of e)
     -- in a run that fits such an epoch has no version of the opening
     pub given_back_new : IsTrue r.fits → (a e : ℕ) → ShownIn r crew a e → IsUndoomed e → IsFromStage Halted e

@@ -15,10 +15,15 @@ use Rattle.line_account.specs.ScriptOrder.{◌followed_by◌, ◌then◌}
 -- A line that was served, and its answer. Three things that are not printed stand beside them: the version that the line drew, if it
 -- drew one, and the epochs at which it opened an entry, or found the one that it purged, and looked at one last.
 pub record Served : Type 0 where
+  -- the line of the script: its number, its worker and its request
   pub asked : Line
+  -- what it was answered
   pub answer : Answer
+  -- the version that it drew, if it drew one
   pub drew : Option ℕ
+  -- the epoch at which it opened an entry, or found the one that it purged, as a number
   pub opened : ℕ
+  -- the epoch at which it looked at an entry last
   pub looked : ℕ
 
 -- A line of which P holds, given the lines of its worker before it.
@@ -137,8 +142,11 @@ url_at earlier request = of_shape (shape_of request)
 
 -- the anchor a is that of this URL, if there is one
 pub record IsAnchorOf (anchors : ℕ) (named : Option (List ℕ)) (a : ℕ) : Type 0 where
+  -- a URL
   pub url : List ℕ
+  -- this one
   pub named_is : named ≡ Some url
+  -- whose anchor it is
   pub anchor : a ≡ anchor_of (key_of url) anchors
 
 -- the line, with these before it, is at work at the anchor a
@@ -164,9 +172,13 @@ begun_by earlier s = begun_of earlier s s.asked.request
 
 -- this is the line that began a writing, with the version x, at the anchor a
 pub record IsWritingOf (anchors : ℕ) (begun : Option Served) (a x : ℕ) : Type 0 where
+  -- a line
   pub first : Served
+  -- this one
   pub begun_is : begun ≡ Some first
+  -- which drew the version
   pub drew : first.drew ≡ Some x
+  -- for a URL of the anchor
   pub anchor : IsAnchorOf anchors (url_in first.asked.request) a
 
 -- a line that writes the version x at the anchor a

@@ -46,7 +46,9 @@ counts_as _ = []
 
 -- the line s, with these before it, counts as the epoch e at the anchor a
 pub record CountsAt (anchors : ℕ) (earlier : List Served) (s : Served) (a e : ℕ) : Type 0 where
+  -- the line is at work there
   pub at : IsAt anchors earlier s a
+  -- and its answer counts as the epoch
   pub counts : Contains (counts_as s.answer) e
 
 -- it tells that the version x was opened
@@ -109,5 +111,7 @@ pub record HandsOver {X : Type 0} (mark met : Stage X) : Type 0 where
 
 -- a line at the anchor a printed the version x alone
 pub record PrintsAlone (anchors : ℕ) (earlier : List Served) (s : Served) (a x : ℕ) : Type 0 where
+  -- the line is at work there
   pub at : IsAt anchors earlier s a
+  -- and its answer prints the version alone
   pub alone : version_alone s.answer ≡ Some x

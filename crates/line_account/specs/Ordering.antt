@@ -11,7 +11,7 @@ use Rattle.line_account.specs.Order.{CountsAt, NotBelow}
 use Rattle.line_account.specs.Parts.{AddsTo, GivesOf, PrintsPart}
 use Rattle.line_account.specs.ScriptOrder.{◌then◌}
 
-module _ {X : Type 0} (r : Run X) (crew : List (Worker X)) where
+module _ {X : Type 0} (r : Run X) (crew : List Worker) where
   pub record AreInOrder : Type 0 where
     -- What a worker prints at an anchor is not below what the anchor had at the opening,
     pub opening : (a : ℕ) → a < r.setting.anchors → (p : LineIn crew (λ before t. IsAt r.setting.anchors before t a))

@@ -29,22 +29,30 @@ use Rattle.line_account.specs.EpochNames.{IsAtStage}
 
 -- a line at the anchor a printed this key, with this epoch
 pub record PrintsKey (anchors : ℕ) (earlier : List Served) (s : Served) (a : ℕ) (epoch : Epoch) (key : List ℕ) : Type 0 where
+  -- the line is at work there
   pub at : IsAt anchors earlier s a
+  -- it printed MISS or NONE for another key: this one, with this epoch
   pub printed : Refuses s.answer (OtherKey epoch key)
 
-abbrev pub KeyIn : {X : Type 0} → Run X → List (Worker X) → (a : ℕ) → Epoch → List ℕ → Type 0
+abbrev pub KeyIn : {X : Type 0} → Run X → List Worker → (a : ℕ) → Epoch → List ℕ → Type 0
 KeyIn r crew a epoch key = LineIn crew (λ earlier s. PrintsKey r.setting.anchors earlier s a epoch key)
 
 -- the entry that the anchor a had at the opening is that of this URL
 pub record IsOldUrl {X : Type 0} (r : Run X) (a : ℕ) (url : List ℕ) : Type 0 where
+  -- the first half of the key stood beside the anchor
   pub front : word_in r.setting r.setting.words (Beside Key0 a) ≡ front_half (key_of url)
+  -- and so did the second half
   pub back : word_in r.setting r.setting.words (Beside Key1 a) ≡ back_half (key_of url)
 
 -- it is the key of the URL of the line that began the version x at the anchor a
-pub record IsKeyOfLine {X : Type 0} (r : Run X) (crew : List (Worker X)) (a x : ℕ) (key : List ℕ) : Type 0 where
+pub record IsKeyOfLine {X : Type 0} (r : Run X) (crew : List Worker) (a x : ℕ) (key : List ℕ) : Type 0 where
+  -- the line that began the version there
   pub begun : BegunIn r crew a x
+  -- the URL
   pub url : List ℕ
+  -- of that line
   pub url_is : url_in begun.served.asked.request ≡ Some url
+  -- has the key
   pub key_is : key ≡ key_of url
 
 -- the anchor a had an entry at the opening
@@ -57,25 +65,36 @@ old_offer r a = word_in r.setting r.setting.words (Beside Offer a)
 
 -- a line that gets a URL of the anchor a printed HIT with the version x
 pub record PrintsHit (anchors : ℕ) (s : Served) (a x : ℕ) (url bytes : List ℕ) : Type 0 where
+  -- the line gets the URL
   pub request : s.asked.request ≡ Get url
+  -- whose anchor it is
   pub anchor : a ≡ anchor_of (key_of url) anchors
+  -- and printed HIT with the version and the bytes
   pub printed : s.answer ≡ answer.Hit x bytes
 
-abbrev pub HitIn : {X : Type 0} → Run X → List (Worker X) → (a x : ℕ) → (url bytes : List ℕ) → Type 0
+abbrev pub HitIn : {X : Type 0} → Run X → List Worker → (a x : ℕ) → (url bytes : List ℕ) → Type 0
 HitIn r crew a x url bytes = LineIn crew (λ earlier s. PrintsHit r.setting.anchors s a x url bytes)
 
 -- the bytes are the body that the line which began the version x at the anchor a offers under this URL
-pub record IsBodyOfLine {X : Type 0} (r : Run X) (crew : List (Worker X)) (a x : ℕ) (url bytes : List ℕ) : Type 0 where
+pub record IsBodyOfLine {X : Type 0} (r : Run X) (crew : List Worker) (a x : ℕ) (url bytes : List ℕ) : Type 0 where
+  -- the line that began the version there
   pub begun : BegunIn r crew a x
+  -- a body as the script writes it
   pub body : Body
+  -- that the line offers under the URL
   pub offers : Offers begun.served.asked.request url body
+  -- these are its bytes
   pub whole : bytes ≡ bytes_of body
 
 -- they are the body that a line offers under this URL which printed that it began the version x at the anchor a
-pub record IsBodyAsPrinted {X : Type 0} (r : Run X) (crew : List (Worker X)) (a x : ℕ) (url bytes : List ℕ) : Type 0 where
+pub record IsBodyAsPrinted {X : Type 0} (r : Run X) (crew : List Worker) (a x : ℕ) (url bytes : List ℕ) : Type 0 where
+  -- the line that printed that it began the version there
   pub begun : TellsBegunIn r crew a x
+  -- a body as the script writes it
   pub body : Body
+  -- that the line offers under the URL
   pub offers : Offers begun.served.asked.request url body
+  -- these are its bytes
   pub whole : bytes ≡ bytes_of body
 
 -- a request that begins a writing and ends it
@@ -86,29 +105,41 @@ OffersAtOnce _ = ⊥
 
 -- they are the body of the entry that the anchor had at the opening, and the URL is its URL
 pub record IsOldBody {X : Type 0} (r : Run X) (a : ℕ) (url bytes : List ℕ) : Type 0 where
+  -- the anchor had an entry then
   pub there : HadEntry r a
+  -- these are all bytes of its body
   pub whole : bytes ≡ r.body (old_offer r a)
+  -- and this is its URL
   pub url_is : r.url (old_offer r a) ≡ url
 
 -- a URL of the entry that the anchor of this URL had at the opening, or of a line that began a version there, is another one with the
 -- same key
-pub record IsOtherUrl {X : Type 0} (r : Run X) (crew : List (Worker X)) (url other : List ℕ) : Type 0 where
+pub record IsOtherUrl {X : Type 0} (r : Run X) (crew : List Worker) (url other : List ℕ) : Type 0 where
+  -- it has the same key
   pub same_key : key_of other ≡ key_of url
+  -- it is another one
   pub differs : other ≢ url
+  -- it is that of the entry of the opening, or of a line that began a version there
   pub source : (HadEntry r (anchor_of (key_of url) r.setting.anchors)
       × (r.url (old_offer r (anchor_of (key_of url) r.setting.anchors)) ≡ other))
       ⊎ ((x : ℕ) × (p : BegunIn r crew (anchor_of (key_of url) r.setting.anchors) x) × (url_in p.served.asked.request ≡ Some other))
 
 -- some URL is such a one
-pub record HasOtherUrl {X : Type 0} (r : Run X) (crew : List (Worker X)) (url : List ℕ) : Type 0 where
+pub record HasOtherUrl {X : Type 0} (r : Run X) (crew : List Worker) (url : List ℕ) : Type 0 where
+  -- a URL
   pub other : List ℕ
+  -- is such a one
   pub is : IsOtherUrl r crew url other
 
 -- what a line printed OTHERURL for: the URL that it reads, or that its tab was opened with
 pub record PrintsOther (earlier : List Served) (s : Served) (url : List ℕ) : Type 0 where
+  -- the line
   pub first : Served
+  -- that opened what the line reads
   pub opened_is : opened_by earlier s ≡ Some first
+  -- named this URL
   pub named : url_in first.asked.request ≡ Some url
+  -- and the line printed OTHERURL
   pub printed : s.answer ≡ answer.OtherUrl
 
 -- the answers that tell of an entry of the version x which was found to be there: OPEN, HIT, PART and PURGED
@@ -121,36 +152,52 @@ TellsFound _ x = ⊥
 
 -- a line that names this URL, of the anchor a, printed that an entry of the version x is there
 pub record Finds (anchors : ℕ) (s : Served) (a x : ℕ) (url : List ℕ) : Type 0 where
+  -- the line names the URL
   pub named : url_in s.asked.request ≡ Some url
+  -- whose anchor it is
   pub anchor : a ≡ anchor_of (key_of url) anchors
+  -- its answer tells of an entry of the version
   pub found : TellsFound s.answer x
 
 -- What a line reads was opened with the version x at the anchor a: by itself, where a `get` printed HIT with it, or by the `open` of its
 -- tab, which printed OPEN with it.
 pub record ReadsVersion (anchors : ℕ) (earlier : List Served) (s : Served) (a x : ℕ) : Type 0 where
+  -- the line
   pub first : Served
+  -- that opened what the line reads
   pub opened_is : opened_by earlier s ≡ Some first
+  -- for a URL of the anchor
   pub anchor : IsAnchorOf anchors (url_in first.asked.request) a
+  -- and printed OPEN or HIT with the version
   pub told : Opens first.answer x
 
 -- and the line gave it to its end, by HIT or END
 pub record ReadsWhole (anchors : ℕ) (earlier : List Served) (s : Served) (a x : ℕ) : Type 0 where
+  -- the line reads the version there
   pub of : ReadsVersion anchors earlier s a x
+  -- it printed HIT or END
   pub whole : IsWhole s.answer
 
 -- Readers.
 
 -- a line at the anchor a printed BUSY, with more readers in one of the words than the worker's own tabs that read there
 pub record PrintsReaders (anchors : ℕ) (earlier : List Served) (s : Served) (a : ℕ) : Type 0 where
+  -- the line is at work there
   pub at : IsAt anchors earlier s a
+  -- the word that it found first
   pub looked : Word
+  -- and the one that it found then
   pub other : Word
+  -- it printed BUSY with them
   pub printed : s.answer ≡ answer.Busy looked other
+  -- one of them has more readers than tabs of the worker read there
   pub more : (readers_at anchors earlier a < looked.readers) ⊎ (readers_at anchors earlier a < other.readers)
 
 -- another worker than the one numbered j opens, gets or purges a URL of the anchor a
-pub record AnotherComes {X : Type 0} (r : Run X) (crew : List (Worker X)) (j a : ℕ) : Type 0 where
+pub record AnotherComes {X : Type 0} (r : Run X) (crew : List Worker) (j a : ℕ) : Type 0 where
+  -- a line that opens, gets or purges such a URL
   pub comes : LineIn crew (λ earlier s. ComesTo r.setting.anchors s.asked.request a)
+  -- of another worker
   pub another : comes.j ≢ j
 
 -- Refusals.
@@ -161,32 +208,42 @@ NeedsTooMany r url body = min 4096 r.setting.slots * r.room < 32 + length url + 
 
 -- a line printed LARGE, in the writing that this line began
 pub record PrintsLarge (earlier : List Served) (s : Served) (first : Served) : Type 0 where
+  -- the line is of the writing that the other one began
   pub begun_is : begun_by earlier s ≡ Some first
+  -- it printed LARGE
   pub printed : s.answer ≡ answer.Large
 
 -- a line printed STORED or DOOMED, and so ended the writing that this line began
 pub record PrintsEnded (earlier : List Served) (s : Served) (first : Served) : Type 0 where
+  -- the line is of the writing that the other one began
   pub begun_is : begun_by earlier s ≡ Some first
+  -- with some version
   pub version : ℕ
+  -- it printed STORED or DOOMED
   pub printed : (s.answer ≡ answer.Stored version) ⊎ (s.answer ≡ answer.Doomed version)
 
 -- BUSY: its words are the same, and neither vacant nor idle; or the first is one of these, and they differ. The epoch does not fall.
 pub record HasBusyWords (looked other : Word) : Type 0 where
+  -- somebody held the anchor, or overtook the line there
   pub cause : IsHeld looked other ⊎ IsOvertaken looked other
+  -- the second epoch is not below the first one
   pub rises : epoch_number looked.epoch ≤ epoch_number other.epoch
 
 -- a line printed ADDED with this count, where it asked for `asked` bytes, and the line `first` began its tab's writing
 pub record PrintsAdded (earlier : List Served) (s : Served) (first : Served) (tab asked count : ℕ) : Type 0 where
+  -- the line was to add so many bytes on the tab
   pub request : s.asked.request ≡ Add tab asked
+  -- it printed ADDED with the count
   pub printed : s.answer ≡ answer.Added count
+  -- and the first line began what the tab writes
   pub begun_is : writing tab earlier ≡ Some first
 
 -- the version x at the anchor a was whole: its writing printed STORED, or it is the one of the entry that the anchor had at the opening
-abbrev pub WasWhole : {X : Type 0} → Run X → List (Worker X) → (a x : ℕ) → Type 0
+abbrev pub WasWhole : {X : Type 0} → Run X → List Worker → (a x : ℕ) → Type 0
 WasWhole r crew a x = StoredIn r crew a x ⊎ (HadEntry r a × (x ≡ version_of (opening_epoch r.setting a)))
 
 -- the entry of the version x at the anchor a may have given way for a slot
-pub record MayGiveWay {X : Type 0} (r : Run X) (crew : List (Worker X)) (a x : ℕ) : Type 0 where
+pub record MayGiveWay {X : Type 0} (r : Run X) (crew : List Worker) (a x : ℕ) : Type 0 where
   -- the run does not fit
   pub unfit : r.fits ≡ false
   -- some line may have evicted an entry, by its answer
@@ -195,28 +252,36 @@ pub record MayGiveWay {X : Type 0} (r : Run X) (crew : List (Worker X)) (a x : �
   pub whole : WasWhole r crew a x
 
 -- the writing of the version x at the anchor a was halted, or the entry may have given way
-abbrev pub GivenBackIn : {X : Type 0} → Run X → List (Worker X) → (a x : ℕ) → Type 0
+abbrev pub GivenBackIn : {X : Type 0} → Run X → List Worker → (a x : ℕ) → Type 0
 GivenBackIn r crew a x = HaltedIn r crew a x ⊎ MayGiveWay r crew a x
 
 -- Bytes.
 
 -- a line read the entry that this line opened, with this URL
 pub record ReadsOf (earlier : List Served) (s : Served) (first : Served) (url : List ℕ) : Type 0 where
+  -- the first line opened what the line reads
   pub opened_is : opened_by earlier s ≡ Some first
+  -- by the URL
   pub named : url_in first.asked.request ≡ Some url
+  -- the line was answered as one that read
   pub reads : Reads s.answer
   pub some : IsSure s.answer ⊎ (bytes_with earlier s ≢ [])  -- a FAULT that gave nothing may come before a slot was read
 
 -- a body that the anchor of this URL had at the opening under the URL, or that a line which began a version there offers under it
-pub record IsStored {X : Type 0} (r : Run X) (crew : List (Worker X)) (url bytes : List ℕ) : Type 0 where
+pub record IsStored {X : Type 0} (r : Run X) (crew : List Worker) (url bytes : List ℕ) : Type 0 where
+  -- that of the entry which the anchor had at the opening, or of a line that began a version there
   pub source : IsOldBody r (anchor_of (key_of url) r.setting.anchors) url bytes
       ⊎ ((x : ℕ) × IsBodyOfLine r crew (anchor_of (key_of url) r.setting.anchors) x url bytes)
 
 -- the bytes are the first ones of such a body, and all of them where the answer says so
-pub record AreFirstOnes {X : Type 0} (r : Run X) (crew : List (Worker X)) (a : Answer) (url bytes : List ℕ) : Type 0 where
+pub record AreFirstOnes {X : Type 0} (r : Run X) (crew : List Worker) (a : Answer) (url bytes : List ℕ) : Type 0 where
+  -- a body
   pub body : List ℕ
+  -- that is stored under the URL
   pub stored : IsStored r crew url body
+  -- the bytes are the first ones of it
   pub first_ones : bytes ≡ take (length bytes) body
+  -- and all of it at HIT and END
   pub whole : IsWhole a → bytes ≡ body
 
 -- Ends of writings.
@@ -227,21 +292,33 @@ PrintsFinished s x = (s.answer ≡ answer.Stored x) ⊎ (s.answer ≡ answer.Doo
 
 -- a line of the writing of the version x at the anchor a printed so
 pub record Ends (anchors : ℕ) (earlier : List Served) (s : Served) (a x : ℕ) : Type 0 where
+  -- the line writes the version there
   pub writes : Writes anchors earlier s a x
+  -- it printed STORED or DOOMED with it
   pub printed : PrintsFinished s x
 
-abbrev pub FinishedIn : {X : Type 0} → Run X → List (Worker X) → (a x : ℕ) → Type 0
+abbrev pub FinishedIn : {X : Type 0} → Run X → List Worker → (a x : ℕ) → Type 0
 FinishedIn r crew a x = LineIn crew (λ earlier s. Ends r.setting.anchors earlier s a x)
 
 -- an `end` printed so, on a tab whose writing was begun by a line that printed BEGUN with this version
 pub record EndsBegun (earlier : List Served) (s : Served) (version x : ℕ) : Type 0 where
+  -- a tab
   pub tab : ℕ
+  -- whose writing the line ends
   pub request : s.asked.request ≡ End tab
+  -- with the version that it printed
   pub printed : PrintsFinished s x
+  -- the line
   pub first : Served
+  -- that began the writing
   pub begun_is : writing tab earlier ≡ Some first
+  -- on a tab
   pub named : ℕ
+  -- for a URL
   pub url : List ℕ
+  -- with a body
   pub body : Body
+  -- is a `begin`
   pub begins : first.asked.request ≡ Begin named url body
+  -- and printed BEGUN with its version
   pub begun : first.answer ≡ answer.Begun version

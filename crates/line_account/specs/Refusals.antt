@@ -14,7 +14,8 @@ use Rattle.line_account.specs.Answers.{IsCauseOf, IsLong, Refuses, Run}
 use Rattle.line_account.specs.Closing.{LineIn, Worker}
 use Rattle.line_account.specs.Lines.{Fits, Offers, Served, added}
 use Rattle.line_account.specs.Order.{FindsEntry}
-use Rattle.line_account.specs.Printed.{AnotherComes, EndsBegun, HasBusyWords, HasOtherUrl, NeedsTooMany, PrintsAdded, PrintsEnded, PrintsLarge, PrintsOther, PrintsReaders}
+use Rattle.line_account.specs.Printed.{AnotherComes, EndsBegun, HasBusyWords, HasOtherUrl, NeedsTooMany, PrintsAdded, PrintsEnded}
+use Rattle.line_account.specs.Printed.{PrintsLarge, PrintsOther, PrintsReaders}
 use Rattle.line_account.specs.Requests.{IsAnswerTo}
 use Rattle.line_account.specs.Scripts.{offering}
 use Rattle.lock_word.specs.declared.stage.Stage.TheVariants.{Appending}
@@ -24,7 +25,7 @@ use Rattle.line_account.specs.EpochNames.{IsAtStage}
 abbrev pub Any : List Served → Served → Type 0
 Any earlier s = Unit {0}
 
-module _ {X : Type 0} (r : Run X) (script : List Line) (crew : List (Worker X)) where
+module _ {X : Type 0} (r : Run X) (script : List Line) (crew : List Worker) where
   pub record AnswersHaveCauses : Type 0 where
     -- each answer is one that its request may get
     pub possible : (p : LineIn crew Any) → IsAnswerTo p.served.asked.request p.served.answer

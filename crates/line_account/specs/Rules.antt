@@ -11,7 +11,7 @@ use Rattle.line_account.specs.Tabs.{TabsStay}
 use Rattle.line_account.specs.Versions.{AreBegun}
 
 -- Where a run does not tell of bytes, nothing is said of them.
-pub record KeepsRules {X : Type 0} (r : Run X) (script : List Line) (crew : List (Worker X)) : Type 0 where
+pub record KeepsRules {X : Type 0} (r : Run X) (script : List Line) (crew : List Worker) : Type 0 where
   -- Each answer is one that its request may get, and each refusal has its cause.
   pub answers : AnswersHaveCauses r script crew
   -- What is given of a response is of the body that is stored under its URL.

@@ -14,8 +14,8 @@ in_order [] = []
 in_order (earlier then s) = in_order earlier ++ s.asked ∷ []
 
 -- the workers, numbered from 1, served the lines of a script, each its own ones in their order
-abbrev pub ServesScript : {X : Type 0} → List Line → List (Worker X) → Type 0
-ServesScript {X} lines crew = (j : ℕ) (w : Worker X) → get_elem? crew j ≡ some w → in_order w.served ≡ filter (λ l. l.worker == j + 1) lines
+abbrev pub ServesScript : List Line → List Worker → Type 0
+ServesScript lines crew = (j : ℕ) (w : Worker) → get_elem? crew j ≡ some w → in_order w.served ≡ filter (λ l. l.worker == j + 1) lines
 
 -- how many of these lines offer a body
 abbrev pub offering : List Line → ℕ

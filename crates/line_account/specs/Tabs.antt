@@ -49,7 +49,7 @@ pub record IsFrontOfOld {X : Type 0} (r : Run X) (a : ℕ) (told : Answer) (byte
   pub whole : IsWhole told → bytes ≡ r.body (old_offer r a)
 
 -- or of the body that the line offers which began the version x at the anchor a
-pub record IsFrontOfLine {X : Type 0} (r : Run X) (crew : List (Worker X)) (a x : ℕ) (told : Answer) (bytes : List ℕ) : Type 0 where
+pub record IsFrontOfLine {X : Type 0} (r : Run X) (crew : List Worker) (a x : ℕ) (told : Answer) (bytes : List ℕ) : Type 0 where
   pub begun : BegunIn r crew a x
   pub url : List ℕ
   pub body : Body
@@ -57,7 +57,7 @@ pub record IsFrontOfLine {X : Type 0} (r : Run X) (crew : List (Worker X)) (a x 
   pub first_ones : bytes ≡ take (length bytes) (bytes_of body)
   pub whole : IsWhole told → bytes ≡ bytes_of body
 
-module _ {X : Type 0} (r : Run X) (crew : List (Worker X)) where
+module _ {X : Type 0} (r : Run X) (crew : List Worker) where
   pub record TabsStay : Type 0 where
     -- PART on a tab is of the version that its OPEN printed
     pub part : (a x : ℕ) (epoch : Epoch) → LineIn crew (λ earlier s. ReadsPart r.setting.anchors earlier s a x epoch)

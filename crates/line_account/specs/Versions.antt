@@ -8,7 +8,7 @@ use Rattle.line_account.specs.Deeds.{Begins, PrintsBegun, PrintsBegunVersion}
 use Rattle.line_account.specs.Lines.{offers}
 use Rattle.line_account.specs.Scripts.{offering}
 
-module _ {X : Type 0} (r : Run X) (script : List Line) (crew : List (Worker X)) where
+module _ {X : Type 0} (r : Run X) (script : List Line) (crew : List Worker) where
   pub record AreBegun : Type 0 where
     -- a line that begins a version offers a body, and printed BEGUN, STORED, DOOMED, FULL, LARGE or FAULT
     pub printed : (a x : ℕ) → (p : BegunIn r crew a x) → (offers p.served.asked.request ≡ true) × PrintsBegun p.served.answer

@@ -19,7 +19,7 @@ ghost use Rattle.line_account.specs.ScriptOrder.{◌then◌};
 /// `put` printed BUSY 0.5/0 0.5/0 at an anchor that had nothing when the store was opened: no entry is given back where none
 /// was (`epochs.empty`).
 pub fn nothing_is_given_back_that_never_was<X>()
-    ensures { (r : Run X) (script : List Line) (w : Worker X) (s : Served) (url : List ℕ) (body : Body) (held : Word)
+    ensures { (r : Run X) (script : List Line) (w : Worker) (s : Served) (url : List ℕ) (body : Body) (held : Word)
         → KeepsRules r script (alone w) → w.served ≡ [] then s → opening_epoch r.setting (home r url) ≡ 0
         → s.asked.request ≡ Request.Put url body → s.answer ≡ Answer.Busy held held
         → held.epoch ≡ record { version = 0; stage = stage.Freeing; doom = false } → ⊥ }
@@ -28,7 +28,7 @@ pub fn nothing_is_given_back_that_never_was<X>()
 /// `put` printed STORED, and another worker's `get` of the URL printed MISS absent at EMPTY with that version: a version that
 /// a line began is not at EMPTY (`epochs.begun`).
 pub fn no_begun_version_is_at_empty<X>()
-    ensures { (r : Run X) (script : List Line) (u w : Worker X) (p g : Served) (url : List ℕ) (body : Body) (x : ℕ)
+    ensures { (r : Run X) (script : List Line) (u w : Worker) (p g : Served) (url : List ℕ) (body : Body) (x : ℕ)
         → KeepsRules r script (u ∷ w ∷ []) → u.served ≡ [] then p → w.served ≡ [] then g
         → p.asked.request ≡ Request.Put url body → p.answer ≡ Answer.Stored x → g.asked.request ≡ Request.Get url
         → g.answer ≡ Answer.Miss (Cause.Absent (record { version = x; stage = stage.Empty; doom = false })) → ⊥ }
@@ -36,7 +36,7 @@ pub fn no_begun_version_is_at_empty<X>()
 
 /// `get` printed MISS writing with a doomed epoch at TAKEN: nothing is doomed before its first slot (`epochs.doomed_stage`).
 pub fn nothing_is_doomed_at_taken<X>()
-    ensures { (r : Run X) (script : List Line) (w : Worker X) (s : Served) (url : List ℕ) (x : ℕ)
+    ensures { (r : Run X) (script : List Line) (w : Worker) (s : Served) (url : List ℕ) (x : ℕ)
         → KeepsRules r script (alone w) → w.served ≡ [] then s → s.asked.request ≡ Request.Get url
         → s.answer ≡ Answer.Miss (Cause.Writing (record { version = x; stage = stage.Taken; doom = true })) → ⊥ }
 {}
@@ -44,7 +44,7 @@ pub fn nothing_is_doomed_at_taken<X>()
 /// `put` printed DOOMED at an anchor that had nothing when the store was opened, and another worker's `get` of the URL
 /// printed MISS absent at GONE with that version, not doomed: only what is whole is evicted (`epochs.given_back`).
 pub fn nothing_is_evicted_that_was_not_whole<X>()
-    ensures { (r : Run X) (script : List Line) (u w : Worker X) (p g : Served) (url : List ℕ) (body : Body) (x : ℕ)
+    ensures { (r : Run X) (script : List Line) (u w : Worker) (p g : Served) (url : List ℕ) (body : Body) (x : ℕ)
         → KeepsRules r script (u ∷ w ∷ []) → u.served ≡ [] then p → w.served ≡ [] then g → opening_epoch r.setting (home r url) ≡ 0
         → p.asked.request ≡ Request.Put url body → p.answer ≡ Answer.Doomed x → g.asked.request ≡ Request.Get url
         → g.answer ≡ Answer.Miss (Cause.Absent (record { version = x; stage = stage.Gone; doom = false })) → ⊥ }
@@ -53,7 +53,7 @@ pub fn nothing_is_evicted_that_was_not_whole<X>()
 /// `get` printed MISS absent at GONE, not doomed, with a version of the opening, in a run that fits: what the file had is not
 /// lost there unless a line purges or replaces it (`epochs.given_back_new`).
 pub fn nothing_of_the_file_is_lost_where_lines_fit<X>()
-    ensures { (r : Run X) (script : List Line) (u w : Worker X) (g : Served) (url : List ℕ) (x : ℕ)
+    ensures { (r : Run X) (script : List Line) (u w : Worker) (g : Served) (url : List ℕ) (x : ℕ)
         → KeepsRules r script (u ∷ w ∷ []) → IsTrue r.fits → w.served ≡ [] then g → x ≤ opening_counter r.setting
         → g.asked.request ≡ Request.Get url
         → g.answer ≡ Answer.Miss (Cause.Absent (record { version = x; stage = stage.Gone; doom = false })) → ⊥ }
@@ -61,7 +61,7 @@ pub fn nothing_of_the_file_is_lost_where_lines_fit<X>()
 
 /// The same of an entry at FREEING, of which a `put` printed BUSY (`epochs.given_back_new`).
 pub fn nothing_of_the_file_is_freed_where_lines_fit<X>()
-    ensures { (r : Run X) (script : List Line) (u w : Worker X) (s : Served) (url : List ℕ) (body : Body) (held : Word) (x : ℕ)
+    ensures { (r : Run X) (script : List Line) (u w : Worker) (s : Served) (url : List ℕ) (body : Body) (held : Word) (x : ℕ)
         → KeepsRules r script (u ∷ w ∷ []) → IsTrue r.fits → w.served ≡ [] then s → x ≤ opening_counter r.setting
         → s.asked.request ≡ Request.Put url body → s.answer ≡ Answer.Busy held held
         → held.epoch ≡ record { version = x; stage = stage.Freeing; doom = false } → ⊥ }
@@ -70,7 +70,7 @@ pub fn nothing_of_the_file_is_freed_where_lines_fit<X>()
 /// All lines of a run, of however many workers, printed BUSY with the same words, at FREEING and not doomed: none of them came
 /// so far that it could evict (`epochs.given_back`).
 pub fn nothing_is_given_back_by_refusals<X>()
-    ensures { (r : Run X) (script : List Line) (crew : List (Worker X)) (a x : ℕ) (held : Word)
+    ensures { (r : Run X) (script : List Line) (crew : List Worker) (a x : ℕ) (held : Word)
         → KeepsRules r script crew → ((p : LineIn crew Any) → p.served.answer ≡ Answer.Busy held held)
         → LineIn crew (λ earlier s. IsAt r.setting.anchors earlier s a)
         → held.epoch ≡ record { version = x; stage = stage.Freeing; doom = false } → ⊥ }
@@ -78,7 +78,7 @@ pub fn nothing_is_given_back_by_refusals<X>()
 
 /// A lone `begin` printed BUSY with a word at FREEING, not doomed: no line was there that may evict (`epochs.given_back`).
 pub fn nothing_is_given_back_by_itself<X>()
-    ensures { (r : Run X) (script : List Line) (w : Worker X) (s : Served) (url : List ℕ) (body : Body) (held : Word) (x : ℕ)
+    ensures { (r : Run X) (script : List Line) (w : Worker) (s : Served) (url : List ℕ) (body : Body) (held : Word) (x : ℕ)
         → KeepsRules r script (alone w) → w.served ≡ [] then s → s.asked.request ≡ Request.Begin 0 url body
         → s.answer ≡ Answer.Busy held held
         → held.epoch ≡ record { version = x; stage = stage.Freeing; doom = false } → ⊥ }

@@ -16,7 +16,7 @@ ghost use Rattle.line_account.specs.ScriptOrder.{◌then◌};
 /// A worker's `put` printed STORED, and it set a mark. A second one met the mark and set another, and a third one met this. Then its
 /// `get` of the URL printed MISS absent 0.0: what is told is told on (`order.known`).
 pub fn nothing_told_twice_is_forgotten<X>()
-    ensures { (r : Run X) (script : List Line) (u v w : Worker X) (p a b c d g : Served) (url : List ℕ) (body : Body) (x m n : ℕ)
+    ensures { (r : Run X) (script : List Line) (u v w : Worker) (p a b c d g : Served) (url : List ℕ) (body : Body) (x m n : ℕ)
         → KeepsRules r script (u ∷ v ∷ w ∷ []) → u.served ≡ [] then p then a → v.served ≡ [] then b then c → w.served ≡ [] then d then g
         → p.asked.request ≡ Request.Put url body → p.answer ≡ Answer.Stored x → a.asked.request ≡ Request.Mark m
         → b.asked.request ≡ Request.Await m → b.answer ≡ Answer.Met → c.asked.request ≡ Request.Mark n
@@ -27,7 +27,7 @@ pub fn nothing_told_twice_is_forgotten<X>()
 /// `purge` printed PURGED, and the same worker's next `purge` of the URL printed PURGED with the same version: what is doomed is found
 /// no more (`order.known`).
 pub fn nothing_is_purged_twice<X>()
-    ensures { (r : Run X) (script : List Line) (w : Worker X) (p s : Served) (url : List ℕ) (x : ℕ)
+    ensures { (r : Run X) (script : List Line) (w : Worker) (p s : Served) (url : List ℕ) (x : ℕ)
         → KeepsRules r script (alone w) → w.served ≡ [] then p then s → p.asked.request ≡ Request.Purge url
         → s.asked.request ≡ Request.Purge url
         → p.answer ≡ Answer.Purged (record { version = x; stage = stage.Closed; doom = true })
@@ -37,7 +37,7 @@ pub fn nothing_is_purged_twice<X>()
 /// `put` printed STORED, and the same worker's `get` of the URL MISS leaving x.2d with its version: no stage falls, though the entry was
 /// doomed (`order.known`).
 pub fn no_stage_falls<X>()
-    ensures { (r : Run X) (script : List Line) (w : Worker X) (p g : Served) (url : List ℕ) (body : Body) (x : ℕ)
+    ensures { (r : Run X) (script : List Line) (w : Worker) (p g : Served) (url : List ℕ) (body : Body) (x : ℕ)
         → KeepsRules r script (alone w) → w.served ≡ [] then p then g → p.asked.request ≡ Request.Put url body → p.answer ≡ Answer.Stored x
         → g.asked.request ≡ Request.Get url
         → g.answer ≡ Answer.Miss (Cause.Leaving (record { version = x; stage = stage.Appending; doom = true })) → ⊥ }
@@ -46,7 +46,7 @@ pub fn no_stage_falls<X>()
 /// `open` printed OPEN, `more` on its tab END, and the next one something else than END with no byte: PART, OTHERURL, HALTED or FAULT,
 /// or END again with bytes (`tabs.behind_end`). A tab that came to its end stays there.
 pub fn nothing_comes_behind_an_end<X>()
-    ensures { (r : Run X) (script : List Line) (w : Worker X) (o e m : Served) (url bytes : List ℕ) (x : ℕ)
+    ensures { (r : Run X) (script : List Line) (w : Worker) (o e m : Served) (url bytes : List ℕ) (x : ℕ)
         → KeepsRules r script (alone w) → w.served ≡ [] then o then e then m → o.asked.request ≡ Request.OpenTab 0 url
         → o.answer ≡ Answer.Opened x → e.asked.request ≡ Request.More 0 → e.answer ≡ Answer.End bytes
         → m.asked.request ≡ Request.More 0 → m.answer ≢ Answer.End [] → ⊥ }
@@ -55,7 +55,7 @@ pub fn nothing_comes_behind_an_end<X>()
 /// `open` printed OPEN, `more` on its tab OTHERURL, and the next one something else (`tabs.behind_other`): a tab that turned from its
 /// entry does not come back to it.
 pub fn nothing_comes_behind_another_url<X>()
-    ensures { (r : Run X) (script : List Line) (w : Worker X) (o e m : Served) (url : List ℕ) (x : ℕ)
+    ensures { (r : Run X) (script : List Line) (w : Worker) (o e m : Served) (url : List ℕ) (x : ℕ)
         → KeepsRules r script (alone w) → w.served ≡ [] then o then e then m → o.asked.request ≡ Request.OpenTab 0 url
         → o.answer ≡ Answer.Opened x → e.asked.request ≡ Request.More 0 → e.answer ≡ Answer.OtherUrl
         → m.asked.request ≡ Request.More 0 → m.answer ≢ Answer.OtherUrl → ⊥ }
@@ -64,7 +64,7 @@ pub fn nothing_comes_behind_another_url<X>()
 /// `open` printed OPEN, `more` on its tab HALTED, and the next one anything but HALTED with no byte (`tabs.behind_halted`): an entry that
 /// was given up grows no more, and nothing of it is read again.
 pub fn nothing_grows_behind_a_halt<X>()
-    ensures { (r : Run X) (script : List Line) (w : Worker X) (o e m : Served) (url bytes : List ℕ) (x : ℕ)
+    ensures { (r : Run X) (script : List Line) (w : Worker) (o e m : Served) (url bytes : List ℕ) (x : ℕ)
         → KeepsRules r script (alone w) → w.served ≡ [] then o then e then m → o.asked.request ≡ Request.OpenTab 0 url
         → o.answer ≡ Answer.Opened x → e.asked.request ≡ Request.More 0 → e.answer ≡ Answer.Halted bytes
         → m.asked.request ≡ Request.More 0 → m.answer ≢ Answer.Halted [] → ⊥ }

@@ -16,7 +16,7 @@ ghost use Rattle.line_account.specs.ScriptOrder.{◌then◌};
 /// `begin` printed BEGUN and `add` FULL, and another worker's `open` of the URL printed OPEN with the version and `more` on its
 /// tab END: what was given up is not given whole (`bodies.not_halted`).
 pub fn nothing_refused_is_given_whole<X>()
-    ensures { (r : Run X) (script : List Line) (u w : Worker X) (b d o m : Served) (url bytes : List ℕ) (body : Body) (x count : ℕ)
+    ensures { (r : Run X) (script : List Line) (u w : Worker) (b d o m : Served) (url bytes : List ℕ) (body : Body) (x count : ℕ)
         → KeepsRules r script (u ∷ w ∷ []) → IsTrue r.tells → u.served ≡ [] then b then d → w.served ≡ [] then o then m
         → b.asked.request ≡ Request.Begin 0 url body → b.answer ≡ Answer.Begun x
         → d.asked.request ≡ Request.Add 0 count → d.answer ≡ Answer.Full
@@ -26,7 +26,7 @@ pub fn nothing_refused_is_given_whole<X>()
 
 /// `put` of one URL printed STORED, and `open` of another URL, with another key, OPEN with the version (`keys.found_new`).
 pub fn no_neighbour_is_opened<X>()
-    ensures { (r : Run X) (script : List Line) (w : Worker X) (p s : Served) (url other : List ℕ) (body : Body) (x : ℕ)
+    ensures { (r : Run X) (script : List Line) (w : Worker) (p s : Served) (url other : List ℕ) (body : Body) (x : ℕ)
         → KeepsRules r script (alone w) → w.served ≡ [] then p then s → key_of other ≢ key_of url
         → p.asked.request ≡ Request.Put other body → p.answer ≡ Answer.Stored x
         → s.asked.request ≡ Request.OpenTab 0 url → s.answer ≡ Answer.Opened x → ⊥ }
@@ -35,7 +35,7 @@ pub fn no_neighbour_is_opened<X>()
 /// `put` printed STORED, `open` of the URL OPEN with the version, and `more` on its tab END with other bytes than the body that was put
 /// (`tabs.new`).
 pub fn no_tab_gives_another_body<X>()
-    ensures { (r : Run X) (script : List Line) (w : Worker X) (p o m : Served) (url bytes : List ℕ) (body : Body) (x : ℕ)
+    ensures { (r : Run X) (script : List Line) (w : Worker) (p o m : Served) (url bytes : List ℕ) (body : Body) (x : ℕ)
         → KeepsRules r script (alone w) → IsTrue r.tells → w.served ≡ [] then p then o then m → p.asked.request ≡ Request.Put url body
         → p.answer ≡ Answer.Stored x → o.asked.request ≡ Request.OpenTab 0 url → o.answer ≡ Answer.Opened x
         → m.asked.request ≡ Request.More 0 → m.answer ≡ Answer.End bytes → bytes ≢ bytes_of body → ⊥ }
@@ -44,7 +44,7 @@ pub fn no_tab_gives_another_body<X>()
 /// `put` printed STORED, `open` of the URL OPEN with the version, and `more` on its tab HALTED: what was stored was not given up
 /// (`tabs.halted`).
 pub fn nothing_stored_is_halted<X>()
-    ensures { (r : Run X) (script : List Line) (w : Worker X) (p o m : Served) (url bytes : List ℕ) (body : Body) (x : ℕ)
+    ensures { (r : Run X) (script : List Line) (w : Worker) (p o m : Served) (url bytes : List ℕ) (body : Body) (x : ℕ)
         → KeepsRules r script (alone w) → w.served ≡ [] then p then o then m → p.asked.request ≡ Request.Put url body
         → p.answer ≡ Answer.Stored x → o.asked.request ≡ Request.OpenTab 0 url → o.answer ≡ Answer.Opened x
         → m.asked.request ≡ Request.More 0 → m.answer ≡ Answer.Halted bytes → ⊥ }

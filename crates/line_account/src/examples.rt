@@ -30,30 +30,30 @@ pub fn a_put_and_a_get_have_an_account<X>()
 
 /// A lone line that printed STORED printed the version after the counter of the opening, and no other.
 pub fn a_lone_version_is_the_next_one<X>()
-    ensures { (r : Run X) (w : Worker X) (s : Served) (url : List ℕ) (body : Body) (x : ℕ) → Closed r (alone w) → w.served ≡ [] then s
+    ensures { (r : Run X) (w : Worker) (s : Served) (url : List ℕ) (body : Body) (x : ℕ) → Closed r (alone w) → w.served ≡ [] then s
         → s.asked.request ≡ Request.Put url body
         → s.answer ≡ Answer.Stored x → x ≡ next_version r }
 {}
 
 /// A hit of the URL behind it has this version too, and the body that the line offers, and no other.
 pub fn a_hit_has_what_was_stored<X>()
-    ensures { (r : Run X) (w : Worker X) (start : View X) (p g : Stage X) (url bytes : List ℕ) (body : Body) (x y : ℕ) → Closed r (alone w)
-        → IsTrue r.tells
-        → IsCourseOf r w start ([] then p then g) → p.served.asked.request ≡ Request.Put url body → p.served.answer ≡ Answer.Stored x
+    ensures { (r : Run X) (w : Worker) (start end : View X) (p g : Stage X) (url bytes : List ℕ) (body : Body) (x y : ℕ)
+        → Closed r (alone w) → IsTrue r.tells
+        → IsCourseOf r w start ([] then p then g) end → p.served.asked.request ≡ Request.Put url body → p.served.answer ≡ Answer.Stored x
         → g.served.asked.request ≡ Request.Get url → g.served.answer ≡ Answer.Hit y bytes
         → (x ≡ next_version r) × (y ≡ next_version r) × (bytes ≡ bytes_of body) }
 {}
 
 /// The number of a lone SPENT is the counter of the opening, and no other.
 pub fn a_lone_spent_number_is_the_counter<X>()
-    ensures { (r : Run X) (w : Worker X) (s : Served) (n : ℕ) → Closed r (alone w) → w.served ≡ [] then s → s.answer ≡ Answer.Spent n
+    ensures { (r : Run X) (w : Worker) (s : Served) (n : ℕ) → Closed r (alone w) → w.served ≡ [] then s → s.answer ≡ Answer.Spent n
         → opening_counter r.setting ≡ version_limit → n ≡ version_limit }
 {}
 
 /// Behind PURGED no hit of the URL has its version.
 pub fn no_hit_follows_a_purge<X>()
-    ensures { (r : Run X) (w : Worker X) (start : View X) (p g : Stage X) (url bytes : List ℕ) (e : Epoch) (y : ℕ)
-        → IsCourseOf r w start ([] then p then g)
+    ensures { (r : Run X) (w : Worker) (start end : View X) (p g : Stage X) (url bytes : List ℕ) (e : Epoch) (y : ℕ)
+        → IsCourseOf r w start ([] then p then g) end
         → p.served.asked.request ≡ Request.Purge url → p.served.answer ≡ Answer.Purged e
         → g.served.asked.request ≡ Request.Get url → g.served.answer ≡ Answer.Hit y bytes → version_of (epoch_number e) ≡ y → ⊥ }
 {}
@@ -61,7 +61,7 @@ pub fn no_hit_follows_a_purge<X>()
 /// Behind a `put` that printed FULL, LARGE or FAULT no hit of the URL has its version: it is that of an entry
 /// of the opening.
 pub fn nothing_given_up_is_hit<X>()
-    ensures { (r : Run X) (w : Worker X) (p g : Served) (url bytes : List ℕ) (body : Body) (y : ℕ) → Closed r (alone w) → IsTrue r.tells
+    ensures { (r : Run X) (w : Worker) (p g : Served) (url bytes : List ℕ) (body : Body) (y : ℕ) → Closed r (alone w) → IsTrue r.tells
         → w.served ≡ [] then p then g
         → p.asked.request ≡ Request.Put url body → gives_up p.answer ≡ true → g.asked.request ≡ Request.Get url
         → g.answer ≡ Answer.Hit y bytes → y ≤ opening_counter r.setting }
@@ -69,14 +69,14 @@ pub fn nothing_given_up_is_hit<X>()
 
 /// Where the one line of a worker only looks, and no line gave a writing up, it shows no epoch at HALTED.
 pub fn nothing_is_halted_by_itself<X>()
-    ensures { (r : Run X) (w : Worker X) (s : Served) (url : List ℕ) (e : Epoch) → Closed r (alone w) → w.served ≡ [] then s
+    ensures { (r : Run X) (w : Worker) (s : Served) (url : List ℕ) (e : Epoch) → Closed r (alone w) → w.served ≡ [] then s
         → s.asked.request ≡ Request.Get url
         → s.answer ≡ Answer.Miss (Cause.Leaving e) → IsAtStage stage.Halted (epoch_number e) → ⊥ }
 {}
 
 /// In a run that fits it shows no epoch at GONE that is not doomed either.
 pub fn nothing_gives_way_where_lines_fit<X>()
-    ensures { (r : Run X) (w : Worker X) (s : Served) (url : List ℕ) (e : Epoch) → Closed r (alone w) → IsTrue r.fits → w.served ≡ [] then s
+    ensures { (r : Run X) (w : Worker) (s : Served) (url : List ℕ) (e : Epoch) → Closed r (alone w) → IsTrue r.fits → w.served ≡ [] then s
         → s.asked.request ≡ Request.Get url
         → s.answer ≡ Answer.Miss (Cause.Absent e) → IsAtStage stage.Gone (epoch_number e) → e.doom ≡ true }
 {}

@@ -48,12 +48,12 @@ ghost use Rattle.line_account.specs.ScriptOrder.{◌then◌};
 pub fn versions_are_begun_by_one_line<X>()
     ensures version { (anchors : ℕ) (s : Served) (a b x y : ℕ) → Begins anchors s a x → Begins anchors s b y → x ≡ y }
     ensures printed { (anchors : ℕ) (s : Served) (a x : ℕ) → Begins anchors s a x → (offers s.asked.request ≡ true) × PrintsBegun s.answer }
-    ensures line { (r : Run X) (crew : List (Worker X)) (a b x : ℕ) → Closed r crew → (p : BegunIn r crew a x) → (q : BegunIn r crew b x)
+    ensures line { (r : Run X) (crew : List Worker) (a b x : ℕ) → Closed r crew → (p : BegunIn r crew a x) → (q : BegunIn r crew b x)
         → IsSameLine crew (λ earlier s. Begins r.setting.anchors s a x) (λ earlier s. Begins r.setting.anchors s b x) p q }
-    ensures anchor { (r : Run X) (crew : List (Worker X)) (a b x : ℕ) → Closed r crew → BegunIn r crew a x → BegunIn r crew b x → a ≡ b }
-    ensures told { (r : Run X) (crew : List (Worker X)) (a x : ℕ) → Closed r crew → (p : TellsBegunIn r crew a x)
+    ensures anchor { (r : Run X) (crew : List Worker) (a b x : ℕ) → Closed r crew → BegunIn r crew a x → BegunIn r crew b x → a ≡ b }
+    ensures told { (r : Run X) (crew : List Worker) (a x : ℕ) → Closed r crew → (p : TellsBegunIn r crew a x)
         → Begins r.setting.anchors p.served a x }
-    ensures once { (r : Run X) (crew : List (Worker X)) (a b x : ℕ) → Closed r crew → (p : TellsBegunIn r crew a x)
+    ensures once { (r : Run X) (crew : List Worker) (a b x : ℕ) → Closed r crew → (p : TellsBegunIn r crew a x)
         → (q : TellsBegunIn r crew b x)
         → IsSameLine crew (λ earlier s. PrintsBegunVersion r.setting.anchors s a x)
         (λ earlier s. PrintsBegunVersion r.setting.anchors s b x) p q }
@@ -62,7 +62,7 @@ pub fn versions_are_begun_by_one_line<X>()
 /// A version that a line began is above the counter of the opening, and at most that and one for each
 /// line that offers a body.
 pub fn begun_versions_have_bounds<X>()
-    ensures { (r : Run X) (crew : List (Worker X)) (a x : ℕ) → Closed r crew → BegunIn r crew a x
+    ensures { (r : Run X) (crew : List Worker) (a x : ℕ) → Closed r crew → BegunIn r crew a x
         → (opening_counter r.setting < x) × (x ≤ opening_counter r.setting + offered crew) }
 {}
 
@@ -71,30 +71,30 @@ pub fn begun_versions_have_bounds<X>()
 /// which the anchor did have. Where the anchor had none, it is at EMPTY and not doomed. Or a line began it
 /// there, and it is not at EMPTY.
 pub fn epochs_have_versions<X>()
-    ensures old { (r : Run X) (crew : List (Worker X)) (a e : ℕ) → Closed r crew → ShownIn r crew a e
+    ensures old { (r : Run X) (crew : List Worker) (a e : ℕ) → Closed r crew → ShownIn r crew a e
         → version_of e ≤ opening_counter r.setting
         → (version_of e ≡ version_of (opening_epoch r.setting a)) × (¬ IsAtStage stage.Taken e) × (¬ IsAtStage stage.Appending e)
         × (¬ IsAtStage stage.Halted e) }
-    ensures stage { (r : Run X) (crew : List (Worker X)) (a e : ℕ) → Closed r crew → ShownIn r crew a e
+    ensures stage { (r : Run X) (crew : List Worker) (a e : ℕ) → Closed r crew → ShownIn r crew a e
         → version_of e ≤ opening_counter r.setting
         → (stage_of e ≡ stage_of (opening_epoch r.setting a)) ⊎ (IsFromStage stage.Freeing e × HadEntry r a) }
-    ensures empty { (r : Run X) (crew : List (Worker X)) (a e : ℕ) → Closed r crew → ShownIn r crew a e
+    ensures empty { (r : Run X) (crew : List Worker) (a e : ℕ) → Closed r crew → ShownIn r crew a e
         → version_of e ≤ opening_counter r.setting
         → IsAtStage stage.Empty (opening_epoch r.setting a) → IsAtStage stage.Empty e × IsUndoomed e }
-    ensures new { (r : Run X) (crew : List (Worker X)) (a e : ℕ) → Closed r crew → ShownIn r crew a e
+    ensures new { (r : Run X) (crew : List Worker) (a e : ℕ) → Closed r crew → ShownIn r crew a e
         → opening_counter r.setting < version_of e
         → BegunIn r crew a (version_of e) }
-    ensures begun { (r : Run X) (crew : List (Worker X)) (a e : ℕ) → Closed r crew → ShownIn r crew a e
+    ensures begun { (r : Run X) (crew : List Worker) (a e : ℕ) → Closed r crew → ShownIn r crew a e
         → opening_counter r.setting < version_of e
         → IsFromStage stage.Taken e }
 {}
 
 /// So is a version that is printed alone, by BEGUN, STORED, DOOMED, OPEN or HIT.
 pub fn versions_printed_alone_are_known<X>()
-    ensures old { (r : Run X) (crew : List (Worker X)) (a x : ℕ) → Closed r crew
+    ensures old { (r : Run X) (crew : List Worker) (a x : ℕ) → Closed r crew
         → LineIn crew (λ earlier s. PrintsAlone r.setting.anchors earlier s a x)
         → x ≤ opening_counter r.setting → x ≡ version_of (opening_epoch r.setting a) }
-    ensures new { (r : Run X) (crew : List (Worker X)) (a x : ℕ) → Closed r crew
+    ensures new { (r : Run X) (crew : List Worker) (a x : ℕ) → Closed r crew
         → LineIn crew (λ earlier s. PrintsAlone r.setting.anchors earlier s a x)
         → opening_counter r.setting < x → BegunIn r crew a x }
 {}
@@ -102,31 +102,31 @@ pub fn versions_printed_alone_are_known<X>()
 /// A version that a line began is shown CLOSED and not doomed only where a line of its writing printed
 /// that it is stored.
 pub fn entries_are_stored_by_lines<X>()
-    ensures { (r : Run X) (crew : List (Worker X)) (a e : ℕ) → Closed r crew → ShownIn r crew a e → opening_counter r.setting < version_of e
+    ensures { (r : Run X) (crew : List Worker) (a e : ℕ) → Closed r crew → ShownIn r crew a e → opening_counter r.setting < version_of e
         → IsUndoomed e → IsAtStage stage.Closed e → StoredIn r crew a (version_of e) }
 {}
 
 /// An epoch at HALTED, and a HALTED line, comes only where the writing of its version was
 /// halted: by a line that printed DROPPED, FULL, LARGE or FAULT, or by its worker's end.
 pub fn halted_entries_were_given_up<X>()
-    ensures epoch { (r : Run X) (crew : List (Worker X)) (a e : ℕ) → Closed r crew → ShownIn r crew a e → IsAtStage stage.Halted e
+    ensures epoch { (r : Run X) (crew : List Worker) (a e : ℕ) → Closed r crew → ShownIn r crew a e → IsAtStage stage.Halted e
         → HaltedIn r crew a (version_of e) }
-    ensures line { (r : Run X) (crew : List (Worker X)) (a : ℕ) → Closed r crew
+    ensures line { (r : Run X) (crew : List Worker) (a : ℕ) → Closed r crew
         → LineIn crew (λ earlier s. PrintsHalted r.setting.anchors earlier s a) → SomeHalted r crew a }
 {}
 
 /// A doomed epoch, and a DOOMED line, comes only where a line printed PURGED with its version, and such an
 /// epoch is at APPENDING or later. And the epoch of PURGED is doomed, at APPENDING, CLOSED or HALTED.
 pub fn doomed_entries_were_purged<X>()
-    ensures epoch { (r : Run X) (crew : List (Worker X)) (a e : ℕ) → Closed r crew → ShownIn r crew a e → IsDoomed e
+    ensures epoch { (r : Run X) (crew : List Worker) (a e : ℕ) → Closed r crew → ShownIn r crew a e → IsDoomed e
         → PurgedIn r crew a (version_of e) }
-    ensures epoch_stage { (r : Run X) (crew : List (Worker X)) (a e : ℕ) → Closed r crew → ShownIn r crew a e → IsDoomed e
+    ensures epoch_stage { (r : Run X) (crew : List Worker) (a e : ℕ) → Closed r crew → ShownIn r crew a e → IsDoomed e
         → IsFromStage stage.Appending e }
-    ensures line { (r : Run X) (crew : List (Worker X)) (a x : ℕ) → Closed r crew
+    ensures line { (r : Run X) (crew : List Worker) (a x : ℕ) → Closed r crew
         → LineIn crew (λ earlier s. PrintsDoomed r.setting.anchors earlier s a x) → PurgedIn r crew a x }
-    ensures purged { (r : Run X) (crew : List (Worker X)) (e : Epoch) → Closed r crew
+    ensures purged { (r : Run X) (crew : List Worker) (e : Epoch) → Closed r crew
         → LineIn crew (λ earlier s. s.answer ≡ Answer.Purged e) → e.doom ≡ true }
-    ensures stage { (r : Run X) (crew : List (Worker X)) (e : Epoch) → Closed r crew → LineIn crew (λ earlier s. s.answer ≡ Answer.Purged e)
+    ensures stage { (r : Run X) (crew : List Worker) (e : Epoch) → Closed r crew → LineIn crew (λ earlier s. s.answer ≡ Answer.Purged e)
         → IsFromStage stage.Appending (epoch_number e) × IsUpToStage stage.Halted (epoch_number e) }
 {}
 
@@ -146,21 +146,21 @@ pub fn accounts_grow<X>()
 /// A key that a line prints is that of one URL: of the entry that the anchor had at the opening, where its
 /// version is of then, and the anchor did have one; or of the line that began its version there.
 pub fn keys_are_of_lines<X>()
-    ensures old { (r : Run X) (crew : List (Worker X)) (a : ℕ) (epoch : Epoch) (key url : List ℕ) → Closed r crew → KeyIn r crew a epoch key
+    ensures old { (r : Run X) (crew : List Worker) (a : ℕ) (epoch : Epoch) (key url : List ℕ) → Closed r crew → KeyIn r crew a epoch key
         → version_of (epoch_number epoch) ≤ opening_counter r.setting → IsOldUrl r a url → key ≡ key_of url }
-    ensures kept { (r : Run X) (crew : List (Worker X)) (a : ℕ) (epoch : Epoch) (key : List ℕ) → Closed r crew → KeyIn r crew a epoch key
+    ensures kept { (r : Run X) (crew : List Worker) (a : ℕ) (epoch : Epoch) (key : List ℕ) → Closed r crew → KeyIn r crew a epoch key
         → version_of (epoch_number epoch) ≤ opening_counter r.setting → HadEntry r a }
-    ensures new { (r : Run X) (crew : List (Worker X)) (a : ℕ) (epoch : Epoch) (key : List ℕ) → Closed r crew → KeyIn r crew a epoch key
+    ensures new { (r : Run X) (crew : List Worker) (a : ℕ) (epoch : Epoch) (key : List ℕ) → Closed r crew → KeyIn r crew a epoch key
         → opening_counter r.setting < version_of (epoch_number epoch) → IsKeyOfLine r crew a (version_of (epoch_number epoch)) key }
 {}
 
 /// The bytes of a hit are the whole body of the entry that the anchor had at the opening, where the version
 /// is of then, or of the body that the line which began the version offers; and its URL is that one's.
 pub fn hits_are_of_lines<X>()
-    ensures old { (r : Run X) (crew : List (Worker X)) (a x : ℕ) (url bytes : List ℕ) → Closed r crew → IsTrue r.tells
+    ensures old { (r : Run X) (crew : List Worker) (a x : ℕ) (url bytes : List ℕ) → Closed r crew → IsTrue r.tells
         → HitIn r crew a x url bytes
         → x ≤ opening_counter r.setting → IsOldBody r a url bytes }
-    ensures new { (r : Run X) (crew : List (Worker X)) (a x : ℕ) (url bytes : List ℕ) → Closed r crew → IsTrue r.tells
+    ensures new { (r : Run X) (crew : List Worker) (a x : ℕ) (url bytes : List ℕ) → Closed r crew → IsTrue r.tells
         → HitIn r crew a x url bytes
         → opening_counter r.setting < x → IsBodyOfLine r crew a x url bytes }
 {}
@@ -168,13 +168,13 @@ pub fn hits_are_of_lines<X>()
 /// A version that is hit, and that a line began, was printed by that line: by BEGUN, or by STORED or DOOMED
 /// of a `put` or a `save`. So the body of the hit is the one that this line offers.
 pub fn hit_versions_were_printed<X>()
-    ensures begun { (r : Run X) (crew : List (Worker X)) (a x : ℕ) (url bytes : List ℕ) → Closed r crew → IsTrue r.tells
+    ensures begun { (r : Run X) (crew : List Worker) (a x : ℕ) (url bytes : List ℕ) → Closed r crew → IsTrue r.tells
         → HitIn r crew a x url bytes
         → (p : BegunIn r crew a x) → PrintsBegunVersion r.setting.anchors p.served a x }
-    ensures finished { (r : Run X) (crew : List (Worker X)) (a x : ℕ) (url bytes : List ℕ) → Closed r crew → IsTrue r.tells
+    ensures finished { (r : Run X) (crew : List Worker) (a x : ℕ) (url bytes : List ℕ) → Closed r crew → IsTrue r.tells
         → HitIn r crew a x url bytes
         → (p : BegunIn r crew a x) → OffersAtOnce p.served.asked.request → PrintsFinished p.served x }
-    ensures body { (r : Run X) (crew : List (Worker X)) (a x : ℕ) (url bytes : List ℕ) → Closed r crew → IsTrue r.tells
+    ensures body { (r : Run X) (crew : List Worker) (a x : ℕ) (url bytes : List ℕ) → Closed r crew → IsTrue r.tells
         → HitIn r crew a x url bytes
         → opening_counter r.setting < x → IsBodyAsPrinted r crew a x url bytes }
 {}
@@ -183,14 +183,14 @@ pub fn hit_versions_were_printed<X>()
 /// version that OPEN, HIT, PURGED or the PART of a `get` tells is that of an entry with the key of the URL: of the one
 /// that the anchor had at the opening, which it did have, or of the line that began the version.
 pub fn entries_found_were_there<X>()
-    ensures opened { (r : Run X) (crew : List (Worker X)) (x : ℕ) → Closed r crew → (p : LineIn crew (λ earlier s. FindsEntry s.answer x))
+    ensures opened { (r : Run X) (crew : List Worker) (x : ℕ) → Closed r crew → (p : LineIn crew (λ earlier s. FindsEntry s.answer x))
         → (version_of p.served.opened ≡ x) × (is_readable p.served.opened ≡ true) }
-    ensures there { (r : Run X) (crew : List (Worker X)) (a x : ℕ) (url : List ℕ) → Closed r crew
+    ensures there { (r : Run X) (crew : List Worker) (a x : ℕ) (url : List ℕ) → Closed r crew
         → LineIn crew (λ earlier s. Finds r.setting.anchors s a x url) → x ≤ opening_counter r.setting → HadEntry r a }
-    ensures old { (r : Run X) (crew : List (Worker X)) (a x : ℕ) (url kept : List ℕ) → Closed r crew
+    ensures old { (r : Run X) (crew : List Worker) (a x : ℕ) (url kept : List ℕ) → Closed r crew
         → LineIn crew (λ earlier s. Finds r.setting.anchors s a x url) → x ≤ opening_counter r.setting → IsOldUrl r a kept
         → key_of url ≡ key_of kept }
-    ensures new { (r : Run X) (crew : List (Worker X)) (a x : ℕ) (url : List ℕ) → Closed r crew
+    ensures new { (r : Run X) (crew : List Worker) (a x : ℕ) (url : List ℕ) → Closed r crew
         → LineIn crew (λ earlier s. Finds r.setting.anchors s a x url) → opening_counter r.setting < x
         → IsKeyOfLine r crew a x (key_of url) }
 {}
@@ -198,9 +198,9 @@ pub fn entries_found_were_there<X>()
 /// A version above the counter of the opening that is given to its end, by HIT or by END, was finished by a line of its
 /// writing, which printed STORED or DOOMED with it. And no line gave the writing up, nor did the end of a worker.
 pub fn entries_given_whole_were_finished<X>()
-    ensures finished { (r : Run X) (crew : List (Worker X)) (a x : ℕ) → Closed r crew → IsTrue r.tells
+    ensures finished { (r : Run X) (crew : List Worker) (a x : ℕ) → Closed r crew → IsTrue r.tells
         → LineIn crew (λ earlier s. ReadsWhole r.setting.anchors earlier s a x) → opening_counter r.setting < x → FinishedIn r crew a x }
-    ensures kept { (r : Run X) (crew : List (Worker X)) (a x : ℕ) → Closed r crew → IsTrue r.tells
+    ensures kept { (r : Run X) (crew : List Worker) (a x : ℕ) → Closed r crew → IsTrue r.tells
         → LineIn crew (λ earlier s. ReadsWhole r.setting.anchors earlier s a x) → opening_counter r.setting < x → HaltedIn r crew a x → ⊥ }
 {}
 
@@ -208,7 +208,7 @@ pub fn entries_given_whole_were_finished<X>()
 /// under its URL: of the entry that the anchor had at the opening, or of a line that began a version there.
 /// They are all of it where the answer is HIT or END. A FAULT that gave no byte claims nothing.
 pub fn bytes_are_of_lines<X>()
-    ensures { (r : Run X) (crew : List (Worker X)) (first : Served) (url : List ℕ) → Closed r crew → IsTrue r.tells
+    ensures { (r : Run X) (crew : List Worker) (first : Served) (url : List ℕ) → Closed r crew → IsTrue r.tells
         → (p : LineIn crew (λ earlier s. ReadsOf earlier s first url))
         → AreFirstOnes r crew p.served.answer url (bytes_with p.earlier p.served) }
 {}
@@ -216,21 +216,21 @@ pub fn bytes_are_of_lines<X>()
 /// OTHERURL comes only where another URL has the key of the URL that is read: that of the entry which the
 /// anchor had at the opening, or of a line that began a version there.
 pub fn other_urls_have_the_key<X>()
-    ensures { (r : Run X) (crew : List (Worker X)) (url : List ℕ) → Closed r crew → IsTrue r.tells
+    ensures { (r : Run X) (crew : List Worker) (url : List ℕ) → Closed r crew → IsTrue r.tells
         → LineIn crew (λ earlier s. PrintsOther earlier s url) → HasOtherUrl r crew url }
 {}
 
 /// A word of BUSY has more readers than the worker's own tabs that read there only where another worker
 /// opens, gets or purges a URL of the anchor.
 pub fn more_readers_come_from_others<X>()
-    ensures { (r : Run X) (crew : List (Worker X)) (a : ℕ) → Closed r crew
+    ensures { (r : Run X) (crew : List Worker) (a : ℕ) → Closed r crew
         → (p : LineIn crew (λ earlier s. PrintsReaders r.setting.anchors earlier s a)) → AnotherComes r crew p.j a }
 {}
 
 /// The number of SPENT is at least the greatest version that may be drawn, and at most the counter of the
 /// opening and the number of the other lines that offer a body.
 pub fn spent_numbers_have_bounds<X>()
-    ensures { (r : Run X) (crew : List (Worker X)) (n : ℕ) → Closed r crew → LineIn crew (λ earlier s. s.answer ≡ Answer.Spent n)
+    ensures { (r : Run X) (crew : List Worker) (n : ℕ) → Closed r crew → LineIn crew (λ earlier s. s.answer ≡ Answer.Spent n)
         → (version_limit ≤ n) × (n < opening_counter r.setting + offered crew) }
 {}
 
@@ -240,24 +240,24 @@ pub fn spent_numbers_have_bounds<X>()
 /// exactly where a body is offered under a URL that leaves no room for its metadata, on a tab that is as the request needs it. TAB comes
 /// exactly where the tab is not so. The epoch of PART is at APPENDING.
 pub fn refusals_have_causes<X>()
-    ensures answer { (r : Run X) (crew : List (Worker X)) → Closed r crew → (p : LineIn crew (λ earlier s. Unit {0}))
+    ensures answer { (r : Run X) (crew : List Worker) → Closed r crew → (p : LineIn crew (λ earlier s. Unit {0}))
         → IsAnswerTo p.served.asked.request p.served.answer }
-    ensures cause { (r : Run X) (crew : List (Worker X)) (cause : Cause) → Closed r crew
+    ensures cause { (r : Run X) (crew : List Worker) (cause : Cause) → Closed r crew
         → (p : LineIn crew (λ earlier s. Refuses s.answer cause)) → IsCauseOf p.served (epoch_in cause) cause }
-    ensures busy { (r : Run X) (crew : List (Worker X)) (looked other : Word) → Closed r crew
+    ensures busy { (r : Run X) (crew : List Worker) (looked other : Word) → Closed r crew
         → LineIn crew (λ earlier s. s.answer ≡ Answer.Busy looked other) → HasBusyWords looked other }
-    ensures large { (r : Run X) (crew : List (Worker X)) (first : Served) (url : List ℕ) (body : Body) → Closed r crew
+    ensures large { (r : Run X) (crew : List Worker) (first : Served) (url : List ℕ) (body : Body) → Closed r crew
         → LineIn crew (λ earlier s. PrintsLarge earlier s first) → Offers first.asked.request url body → NeedsTooMany r url body }
-    ensures small { (r : Run X) (crew : List (Worker X)) (first : Served) (url : List ℕ) (body : Body) → Closed r crew
+    ensures small { (r : Run X) (crew : List Worker) (first : Served) (url : List ℕ) (body : Body) → Closed r crew
         → LineIn crew (λ earlier s. PrintsEnded earlier s first) → Offers first.asked.request url body → ¬ NeedsTooMany r url body }
-    ensures long { (r : Run X) (crew : List (Worker X)) → Closed r crew → (p : LineIn crew (λ earlier s. s.answer ≡ Answer.LongUrl))
+    ensures long { (r : Run X) (crew : List Worker) → Closed r crew → (p : LineIn crew (λ earlier s. s.answer ≡ Answer.LongUrl))
         → IsLong r p.served }
-    ensures short { (r : Run X) (crew : List (Worker X)) (url : List ℕ) (body : Body) → Closed r crew
+    ensures short { (r : Run X) (crew : List Worker) (url : List ℕ) (body : Body) → Closed r crew
         → (p : LineIn crew (λ earlier s. Offers s.asked.request url body × Fits earlier s.asked.request)) → r.room < 32 + length url
         → p.served.answer ≡ Answer.LongUrl }
-    ensures tab { (r : Run X) (crew : List (Worker X)) → Closed r crew → (p : LineIn crew (λ earlier s. Unit {0}))
+    ensures tab { (r : Run X) (crew : List Worker) → Closed r crew → (p : LineIn crew (λ earlier s. Unit {0}))
         → ((p.served.answer ≡ Answer.Tab) ↔ ¬ Fits p.earlier p.served.asked.request) }
-    ensures part { (r : Run X) (crew : List (Worker X)) (epoch : Epoch) (bytes : List ℕ) → Closed r crew
+    ensures part { (r : Run X) (crew : List Worker) (epoch : Epoch) (bytes : List ℕ) → Closed r crew
         → LineIn crew (λ earlier s. s.answer ≡ Answer.Part epoch bytes) → IsAtStage stage.Appending (epoch_number epoch) }
 {}
 
@@ -265,14 +265,14 @@ pub fn refusals_have_causes<X>()
 /// counts as there of which the worker knew: one of its own, or one that the setter of a mark knew of which
 /// the worker met, and so on. A version that it printed that it began is later than all of these.
 pub fn lines_are_in_order<X>()
-    ensures { (r : Run X) (crew : List (Worker X)) → HaveCourses r crew → AreInOrder r crew }
+    ensures { (r : Run X) (crew : List Worker) (view_at : ℕ → View X) → HaveCourses r crew view_at → AreInOrder r crew }
 {}
 
 /// An epoch at HALTED, FREEING or GONE that is not doomed comes only where the writing of its version was
 /// halted; or where the run does not fit, some line is one of those that may evict an entry, and the version
 /// was whole: its writing printed STORED, or the anchor had it at the opening.
 pub fn entries_are_given_back_by_lines<X>()
-    ensures { (r : Run X) (crew : List (Worker X)) (a e : ℕ) → Closed r crew → ShownIn r crew a e → IsUndoomed e
+    ensures { (r : Run X) (crew : List Worker) (a e : ℕ) → Closed r crew → ShownIn r crew a e → IsUndoomed e
         → IsFromStage stage.Halted e → GivenBackIn r crew a (version_of e) }
 {}
 
@@ -280,17 +280,17 @@ pub fn entries_are_given_back_by_lines<X>()
 /// not doomed comes only where the writing of its version was halted, so with no version of the opening;
 /// and no line prints FULL.
 pub fn runs_that_fit_lose_nothing<X>()
-    ensures given_back { (r : Run X) (crew : List (Worker X)) (a e : ℕ) → Closed r crew → IsTrue r.fits → ShownIn r crew a e → IsUndoomed e
+    ensures given_back { (r : Run X) (crew : List Worker) (a e : ℕ) → Closed r crew → IsTrue r.fits → ShownIn r crew a e → IsUndoomed e
         → IsFromStage stage.Halted e → HaltedIn r crew a (version_of e) }
-    ensures old { (r : Run X) (crew : List (Worker X)) (a e : ℕ) → Closed r crew → IsTrue r.fits → ShownIn r crew a e → IsUndoomed e
+    ensures old { (r : Run X) (crew : List Worker) (a e : ℕ) → Closed r crew → IsTrue r.fits → ShownIn r crew a e → IsUndoomed e
         → IsFromStage stage.Halted e → opening_counter r.setting < version_of e }
-    ensures full { (r : Run X) (crew : List (Worker X)) → Closed r crew → IsTrue r.fits → LineIn crew (λ earlier s. s.answer ≡ Answer.Full)
+    ensures full { (r : Run X) (crew : List Worker) → Closed r crew → IsTrue r.fits → LineIn crew (λ earlier s. s.answer ≡ Answer.Full)
         → ⊥ }
 {}
 
 /// The count of ADDED is that which was asked for, or what the body had left, if that is less.
 pub fn added_counts_are_exact<X>()
-    ensures { (r : Run X) (crew : List (Worker X)) (first : Served) (url : List ℕ) (body : Body) (tab asked count : ℕ) → Closed r crew
+    ensures { (r : Run X) (crew : List Worker) (first : Served) (url : List ℕ) (body : Body) (tab asked count : ℕ) → Closed r crew
         → (p : LineIn crew (λ earlier s. PrintsAdded earlier s first tab asked count)) → Offers first.asked.request url body
         → count ≡ min asked (length (bytes_of body) - added tab p.earlier) }
 {}
@@ -299,24 +299,24 @@ pub fn added_counts_are_exact<X>()
 /// bytes in the slots that an ADDED of the version published, and at least what lines of one tab gave of the
 /// version since it was opened, where the worker knew of these lines.
 pub fn parts_are_not_short<X>()
-    ensures { (r : Run X) (crew : List (Worker X)) → Closed r crew → HaveCourses r crew → IsTrue r.tells → AreNotShort r crew }
+    ensures { (r : Run X) (crew : List Worker) → (c : Closed r crew) → HaveCourses r crew c.view_at → IsTrue r.tells → AreNotShort r crew }
 {}
 
 /// Where the lines of the workers are those of a script, no more of them offer a body than of the script's.
 /// So the bounds on versions hold with the script's lines too.
 pub fn scripts_bound_what_is_offered<X>()
-    ensures offered { (lines : List Line) (crew : List (Worker X)) → ServesScript lines crew → offered crew ≤ offering lines }
-    ensures versions { (r : Run X) (lines : List Line) (crew : List (Worker X)) (a x : ℕ) → Closed r crew → ServesScript lines crew
+    ensures offered { (lines : List Line) (crew : List Worker) → ServesScript lines crew → offered crew ≤ offering lines }
+    ensures versions { (r : Run X) (lines : List Line) (crew : List Worker) (a x : ℕ) → Closed r crew → ServesScript lines crew
         → BegunIn r crew a x
         → x ≤ opening_counter r.setting + offering lines }
-    ensures spent { (r : Run X) (lines : List Line) (crew : List (Worker X)) (n : ℕ) → Closed r crew → ServesScript lines crew
+    ensures spent { (r : Run X) (lines : List Line) (crew : List Worker) (n : ℕ) → Closed r crew → ServesScript lines crew
         → LineIn crew (λ earlier s. s.answer ≡ Answer.Spent n) → n < opening_counter r.setting + offering lines }
 {}
 
 /// Workers of a store that was just opened, and who served nothing, have accounts and a closing.
 pub fn idle_workers_are_closed<X>()
     ensures { (r : Run X) (s : State X) → Sound r.setting s → s.views ≡ new_views r.setting 0 r.setting.passes
-        → Closed r (idle_workers r.setting 0 r.setting.passes) }
+        → Closed r (idle_workers r.setting.passes) }
 {}
 
 /// What steps of a pass add is kept: it knows what it knew, its draws add up, and a deed is one of before or
@@ -345,7 +345,7 @@ pub fn quiet_lines_add_nothing<X>()
 
 /// The version of STORED or DOOMED at `end` is the one with which its tab's writing was begun.
 pub fn ends_tell_the_version_begun<X>()
-    ensures { (r : Run X) (crew : List (Worker X)) (version x : ℕ) → Closed r crew
+    ensures { (r : Run X) (crew : List Worker) (version x : ℕ) → Closed r crew
         → LineIn crew (λ earlier s. EndsBegun earlier s version x) → x ≡ version }
 {}
 
@@ -354,23 +354,23 @@ pub fn ends_tell_the_version_begun<X>()
 /// prints END and no byte, behind OTHERURL OTHERURL, and behind HALTED HALTED and no byte. Of one version under one URL either
 /// OTHERURL is printed, or HIT, PART, END and HALTED.
 pub fn tabs_stay_at_their_entries<X>()
-    ensures part { (r : Run X) (crew : List (Worker X)) (a x : ℕ) (epoch : Epoch) → Closed r crew
+    ensures part { (r : Run X) (crew : List Worker) (a x : ℕ) (epoch : Epoch) → Closed r crew
         → LineIn crew (λ earlier s. ReadsPart r.setting.anchors earlier s a x epoch) → version_of (epoch_number epoch) ≡ x }
-    ensures halted { (r : Run X) (crew : List (Worker X)) (a x : ℕ) → Closed r crew
+    ensures halted { (r : Run X) (crew : List Worker) (a x : ℕ) → Closed r crew
         → LineIn crew (λ earlier s. ReadsHalted r.setting.anchors earlier s a x) → HaltedIn r crew a x }
-    ensures old { (r : Run X) (crew : List (Worker X)) (a x : ℕ) → Closed r crew → IsTrue r.tells
+    ensures old { (r : Run X) (crew : List Worker) (a x : ℕ) → Closed r crew → IsTrue r.tells
         → (p : LineIn crew (λ earlier s. ReadsOn r.setting.anchors earlier s a x)) → x ≤ opening_counter r.setting
         → IsFrontOfOld r a p.served.answer (bytes_with p.earlier p.served) }
-    ensures new { (r : Run X) (crew : List (Worker X)) (a x : ℕ) → Closed r crew → IsTrue r.tells
+    ensures new { (r : Run X) (crew : List Worker) (a x : ℕ) → Closed r crew → IsTrue r.tells
         → (p : LineIn crew (λ earlier s. ReadsOn r.setting.anchors earlier s a x)) → opening_counter r.setting < x
         → IsFrontOfLine r crew a x p.served.answer (bytes_with p.earlier p.served) }
-    ensures behind_end { (r : Run X) (crew : List (Worker X)) (tab : ℕ) → Closed r crew
+    ensures behind_end { (r : Run X) (crew : List Worker) (tab : ℕ) → Closed r crew
         → (p : LineIn crew (λ earlier s. ReadsBehind is_end earlier s tab)) → p.served.answer ≡ Answer.End [] }
-    ensures behind_other { (r : Run X) (crew : List (Worker X)) (tab : ℕ) → Closed r crew
+    ensures behind_other { (r : Run X) (crew : List Worker) (tab : ℕ) → Closed r crew
         → (p : LineIn crew (λ earlier s. ReadsBehind is_other_url earlier s tab)) → p.served.answer ≡ Answer.OtherUrl }
-    ensures behind_halted { (r : Run X) (crew : List (Worker X)) (tab : ℕ) → Closed r crew
+    ensures behind_halted { (r : Run X) (crew : List Worker) (tab : ℕ) → Closed r crew
         → (p : LineIn crew (λ earlier s. ReadsBehind is_halted earlier s tab)) → p.served.answer ≡ Answer.Halted [] }
-    ensures one_url { (r : Run X) (crew : List (Worker X)) (a x : ℕ) (url : List ℕ) → Closed r crew → IsTrue r.tells
+    ensures one_url { (r : Run X) (crew : List Worker) (a x : ℕ) (url : List ℕ) → Closed r crew → IsTrue r.tells
         → LineIn crew (λ earlier s. ReadsUnder r.setting.anchors earlier s a x url)
         → LineIn crew (λ earlier s. ReadsOther r.setting.anchors earlier s a x url) → ⊥ }
 {}

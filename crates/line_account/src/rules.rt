@@ -22,7 +22,8 @@ use crate::laws::{
 /// Where the accounts of workers are closed who served a script, each has its course, and marks hand on what their setters
 /// knew, the lines of these workers keep all rules.
 pub fn closed_crews_keep_the_rules<X>()
-    ensures { (r : Run X) (script : List Line) (crew : List (Worker X)) → Closed r crew → ServesScript script crew → HaveCourses r crew
+    ensures { (r : Run X) (script : List Line) (crew : List Worker) → (c : Closed r crew) → ServesScript script crew
+        → HaveCourses r crew c.view_at
         → KeepsRules r script crew }
 {
     added_counts_are_exact::<X>();

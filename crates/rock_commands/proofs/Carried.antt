@@ -23,7 +23,8 @@ use Rattle.rock_commands.specs.declared.command.Command.TheVariants as command
 use Rattle.rock_commands.proofs.CommandFacts.{of_each, of_each_bench, of_each_check, of_each_create, of_each_migrate, of_each_run}
 use Rattle.rock_commands.proofs.CommandFacts.{check_is_no_bench, check_is_no_create, check_is_no_run, create_is_no_bench, create_is_no_run}
 use Rattle.rock_commands.proofs.CommandFacts.{list_is_no_bench, list_is_no_check, list_is_no_create, list_is_no_migrate, list_is_no_run}
-use Rattle.rock_commands.proofs.CommandFacts.{migrate_is_no_bench, migrate_is_no_check, migrate_is_no_create, migrate_is_no_run, run_is_no_bench}
+use Rattle.rock_commands.proofs.CommandFacts.{migrate_is_no_bench, migrate_is_no_check, migrate_is_no_create, migrate_is_no_run}
+use Rattle.rock_commands.proofs.CommandFacts.{run_is_no_bench}
 
 -- the words of a command are a command line
 pub is_line : (words : List (List ℕ)) (asked : Command) → IsCommand words asked → IsCommandLine words
@@ -36,7 +37,8 @@ is_line words (command.Migrate target) is = inr (inr (inr (inr (inr (target.name
 
 module _ {tells : Tells} {before after : World} {status : Status} where
   -- an equal command was carried out too
-  pub carried_as : {asked same : Command} → asked ≡ same → CarriesOut tells same before after status → CarriesOut tells asked before after status
+  pub carried_as : {asked same : Command} → asked ≡ same → CarriesOut tells same before after status
+      → CarriesOut tells asked before after status
   carried_as is carried = subst (λ (c : Command). CarriesOut tells c before after status) (sym is) carried
 
   module _ (words : List (List ℕ)) where
@@ -109,8 +111,10 @@ module _ {tells : Tells} {before after : World} {status : Status} where
     stations_of (command.List target) is carried run bench = carried.stations
     stations_of (command.Check target anchors) is carried run bench = carried.stations
     stations_of (command.Create target) is carried run bench = carried.stations
-    stations_of (command.Run target anchors workers) is carried run bench = absurd (run (target.name.now, target.slot, anchors, workers, is))
-    stations_of (command.Bench target) is carried run bench = absurd (bench (target.name.now, target.seed, target.workers, target.count, is))
+    stations_of (command.Run target anchors workers) is carried run bench =
+        absurd (run (target.name.now, target.slot, anchors, workers, is))
+    stations_of (command.Bench target) is carried run bench = absurd
+        (bench (target.name.now, target.seed, target.workers, target.count, is))
     stations_of (command.Migrate target) is carried run bench = carried.stations
 
     -- other lines than those of `run` leave the script
@@ -126,44 +130,61 @@ module _ {tells : Tells} {before after : World} {status : Status} where
   -- no command ends with the status of words that are none
   pub never_usage : (asked : Command) → CarriesOut tells asked before after status → status ≡ Usage → ⊥
   never_usage (command.List target) carried is =
-      subst (λ (s : Status). ReportEnds AnyCount target.slot before.sink_faults after.sink_faults before.counts after.counts s) is carried.does.ends
+      subst (λ (s : Status). ReportEnds AnyCount target.slot before.sink_faults after.sink_faults before.counts after.counts s) is
+      carried.does.ends
   never_usage (command.Check target anchors) carried is =
-      subst (λ (s : Status). ReportEnds (IsAnchors anchors) target.slot before.sink_faults after.sink_faults before.counts after.counts s) is carried.does.ends
+      subst (λ (s : Status). ReportEnds (IsAnchors anchors) target.slot before.sink_faults after.sink_faults before.counts after.counts s)
+      is carried.does.ends
   never_usage (command.Create target) carried is =
       subst (λ (s : Status). CreateEnds target.slot target.slots before.counts after.counts s) is carried.does.ends
   never_usage (command.Run target anchors workers) carried is =
-      subst (λ (s : Status). RunEnds target.slot anchors workers before.source_faults after.source_faults before.sink_faults after.sink_faults before.counts after.counts s) is carried.does.ends
+      subst (λ (s : Status). RunEnds target.slot anchors workers before.source_faults after.source_faults before.sink_faults
+      after.sink_faults before.counts after.counts s) is carried.does.ends
   never_usage (command.Bench target) carried is =
-      subst (λ (s : Status). BenchEnds target.workers target.count before.sink_faults after.sink_faults before.counts after.counts s) is carried.does.ends
+      subst (λ (s : Status). BenchEnds target.workers target.count before.sink_faults after.sink_faults before.counts after.counts s) is
+      carried.does.ends
   never_usage (command.Migrate target) carried is =
-      subst (λ (s : Status). ReportEnds AnyCount (Some target.slot) before.sink_faults after.sink_faults before.counts after.counts s) is carried.does.ends
+      subst (λ (s : Status). ReportEnds AnyCount (Some target.slot) before.sink_faults after.sink_faults before.counts after.counts s) is
+      carried.does.ends
 
   -- where one ends with a fault of the sink, the sink's count rose
-  pub sink_failed : (asked : Command) → CarriesOut tells asked before after status → status ≡ SinkFault → Rose before.sink_faults after.sink_faults
+  pub sink_failed : (asked : Command) → CarriesOut tells asked before after status → status ≡ SinkFault
+      → Rose before.sink_faults after.sink_faults
   sink_failed (command.List target) carried is =
-      (subst (λ (s : Status). ReportEnds AnyCount target.slot before.sink_faults after.sink_faults before.counts after.counts s) is carried.does.ends).1
+      (subst (λ (s : Status). ReportEnds AnyCount target.slot before.sink_faults after.sink_faults before.counts after.counts s) is
+      carried.does.ends).1
   sink_failed (command.Check target anchors) carried is =
-      (subst (λ (s : Status). ReportEnds (IsAnchors anchors) target.slot before.sink_faults after.sink_faults before.counts after.counts s) is carried.does.ends).1
+      (subst (λ (s : Status). ReportEnds (IsAnchors anchors) target.slot before.sink_faults after.sink_faults before.counts after.counts s)
+      is carried.does.ends).1
   sink_failed (command.Create target) carried is =
       absurd (subst (λ (s : Status). CreateEnds target.slot target.slots before.counts after.counts s) is carried.does.ends)
   sink_failed (command.Run target anchors workers) carried is =
-      (subst (λ (s : Status). RunEnds target.slot anchors workers before.source_faults after.source_faults before.sink_faults after.sink_faults before.counts after.counts s) is carried.does.ends).2
+      (subst (λ (s : Status). RunEnds target.slot anchors workers before.source_faults after.source_faults before.sink_faults
+      after.sink_faults before.counts after.counts s) is carried.does.ends).2
   sink_failed (command.Bench target) carried is =
-      (subst (λ (s : Status). BenchEnds target.workers target.count before.sink_faults after.sink_faults before.counts after.counts s) is carried.does.ends).1
+      (subst (λ (s : Status). BenchEnds target.workers target.count before.sink_faults after.sink_faults before.counts after.counts s) is
+      carried.does.ends).1
   sink_failed (command.Migrate target) carried is =
-      (subst (λ (s : Status). ReportEnds AnyCount (Some target.slot) before.sink_faults after.sink_faults before.counts after.counts s) is carried.does.ends).1
+      (subst (λ (s : Status). ReportEnds AnyCount (Some target.slot) before.sink_faults after.sink_faults before.counts after.counts s) is
+      carried.does.ends).1
 
   -- and where one ends with a fault of the source, the source's did
-  pub source_failed : (asked : Command) → CarriesOut tells asked before after status → status ≡ SourceFault → Rose before.source_faults after.source_faults
+  pub source_failed : (asked : Command) → CarriesOut tells asked before after status → status ≡ SourceFault
+      → Rose before.source_faults after.source_faults
   source_failed (command.List target) carried is =
-      absurd (subst (λ (s : Status). ReportEnds AnyCount target.slot before.sink_faults after.sink_faults before.counts after.counts s) is carried.does.ends)
+      absurd (subst (λ (s : Status). ReportEnds AnyCount target.slot before.sink_faults after.sink_faults before.counts after.counts s) is
+      carried.does.ends)
   source_failed (command.Check target anchors) carried is =
-      absurd (subst (λ (s : Status). ReportEnds (IsAnchors anchors) target.slot before.sink_faults after.sink_faults before.counts after.counts s) is carried.does.ends)
+      absurd (subst (λ (s : Status). ReportEnds (IsAnchors anchors) target.slot before.sink_faults after.sink_faults before.counts
+      after.counts s) is carried.does.ends)
   source_failed (command.Create target) carried is =
       absurd (subst (λ (s : Status). CreateEnds target.slot target.slots before.counts after.counts s) is carried.does.ends)
   source_failed (command.Run target anchors workers) carried is =
-      (subst (λ (s : Status). RunEnds target.slot anchors workers before.source_faults after.source_faults before.sink_faults after.sink_faults before.counts after.counts s) is carried.does.ends).0
+      (subst (λ (s : Status). RunEnds target.slot anchors workers before.source_faults after.source_faults before.sink_faults
+      after.sink_faults before.counts after.counts s) is carried.does.ends).0
   source_failed (command.Bench target) carried is =
-      absurd (subst (λ (s : Status). BenchEnds target.workers target.count before.sink_faults after.sink_faults before.counts after.counts s) is carried.does.ends)
+      absurd (subst (λ (s : Status). BenchEnds target.workers target.count before.sink_faults after.sink_faults before.counts after.counts
+      s) is carried.does.ends)
   source_failed (command.Migrate target) carried is =
-      absurd (subst (λ (s : Status). ReportEnds AnyCount (Some target.slot) before.sink_faults after.sink_faults before.counts after.counts s) is carried.does.ends)
+      absurd (subst (λ (s : Status). ReportEnds AnyCount (Some target.slot) before.sink_faults after.sink_faults before.counts after.counts
+      s) is carried.does.ends)

@@ -5,10 +5,12 @@ use Rattle.rock_disk.specs.File.{Files}
 use Rattle.file_commands.specs.Create.{CreateEnds, CreateSays, MayCreate}
 use Rattle.file_commands.specs.Report.{ReportsOrLacksMemory}
 use Rattle.rock_status.specs.declared.status.Status.{Status}
-use Rattle.rock_status.specs.declared.status.Status.TheVariants.{Done, Usage, Memory, SourceFault, SinkFault, DeviceFault, BadScript, Missing, Small, BadGeometry, Exists}
+use Rattle.rock_status.specs.declared.status.Status.TheVariants.{Done, Usage, Memory, SourceFault, SinkFault, DeviceFault, BadScript}
+use Rattle.rock_status.specs.declared.status.Status.TheVariants.{Missing, Small, BadGeometry, Exists}
 
 -- where nothing refuses the command and the disk did not fail, it is done, unless memory ran out
-pub complete_create : (files : Files) (name : List ℕ) (slot slots : ℕ) (c c' : Counts) (status : Status) → CreateEnds slot slots c c' status → CreateSays files name status → MayCreate files name slot slots → ¬ HasFailed c c'
+pub complete_create : (files : Files) (name : List ℕ) (slot slots : ℕ) (c c' : Counts) (status : Status) → CreateEnds slot slots c c' status
+    → CreateSays files name status → MayCreate files name slot slots → ¬ HasFailed c c'
     → ReportsOrLacksMemory status
 complete_create files name slot slots c c' Done ends says may none = inl refl
 complete_create files name slot slots c c' Usage ends says may none = absurd ends

@@ -13,10 +13,12 @@ ok_same r number n e same = cc
 ok_is_no_err : {E : Type 0} (r : Result ℕ E) (e : E) (n : ℕ) → r ≡ Err e → r ≡ Ok n → ⊥
 ok_is_no_err r e n was same = cc
 
-pub parsed_number : {E : Type 0} (word : List ℕ) (r : Result ℕ E) (number n : ℕ) → n < 2 ^ 64 → word ≡ decimal n → ParsesUnsigned 64 10 word r → r ≡ Ok number → number ≡ n
+pub parsed_number : {E : Type 0} (word : List ℕ) (r : Result ℕ E) (number n : ℕ) → n < 2 ^ 64 → word ≡ decimal n
+    → ParsesUnsigned 64 10 word r → r ≡ Ok number → number ≡ n
 parsed_number word r number n fits spelled parsed is = ok_same r number n is (parse-decimal 64 n word r fits (omega arith) spelled parsed)
 
-pub never_refused : {E : Type 0} (word : List ℕ) (r : Result ℕ E) (e : E) (n : ℕ) → n < 2 ^ 64 → word ≡ decimal n → ParsesUnsigned 64 10 word r → r ≡ Err e → ⊥
+pub never_refused : {E : Type 0} (word : List ℕ) (r : Result ℕ E) (e : E) (n : ℕ) → n < 2 ^ 64 → word ≡ decimal n
+    → ParsesUnsigned 64 10 word r → r ≡ Err e → ⊥
 never_refused word r e n fits spelled parsed is = ok_is_no_err r e n is (parse-decimal 64 n word r fits (omega arith) spelled parsed)
 
 -- equal texts are not found to differ

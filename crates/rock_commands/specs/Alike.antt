@@ -30,5 +30,7 @@ pub record MakesOneAtMost (before after : World) (status : Status) : Type 0 wher
 
 -- It did not read the script.
 pub record LeavesScript (before after : World) : Type 0 where
+  -- All that was left of it is left.
   pub left : after.left ≡ before.left
+  -- No call of its source failed.
   pub faults : after.source_faults ≡ before.source_faults

@@ -18,30 +18,46 @@ FitsWord given = IfSome given (λ slot. slot < 2 ^ 32)
 
 -- `list NAME SLOT`
 pub record IsList (words : List (List ℕ)) (name : List ℕ) (given : Option ℕ) : Type 0 where
+  -- the words
   pub words_are : words ≡ codes "list" ∷ name ∷ slot_word given ∷ []
+  -- NAME is the name of a file
   pub named : IsName name
+  -- SLOT, where it is a number, has 32 bits
   pub fits : FitsWord given
 
 -- `check NAME SLOT ANCHORS`
 pub record IsCheck (words : List (List ℕ)) (name : List ℕ) (given : Option ℕ) (anchors : ℕ) : Type 0 where
+  -- the words
   pub words_are : words ≡ codes "check" ∷ name ∷ slot_word given ∷ decimal anchors ∷ []
+  -- NAME is the name of a file
   pub named : IsName name
+  -- SLOT, where it is a number, has 32 bits
   pub fits : FitsWord given
+  -- and so has ANCHORS
   pub anchors_fit : anchors < 2 ^ 32
 
 -- `create NAME SLOT SLOTS`
 pub record IsCreate (words : List (List ℕ)) (name : List ℕ) (slot slots : ℕ) : Type 0 where
+  -- the words
   pub words_are : words ≡ codes "create" ∷ name ∷ decimal slot ∷ decimal slots ∷ []
+  -- NAME is the name of a file
   pub named : IsName name
+  -- SLOT has 32 bits
   pub fits : slot < 2 ^ 32
+  -- and so has SLOTS
   pub slots_fit : slots < 2 ^ 32
 
 -- `run NAME SLOT ANCHORS WORKERS`
 pub record IsRun (words : List (List ℕ)) (name : List ℕ) (given : Option ℕ) (anchors workers : ℕ) : Type 0 where
+  -- the words
   pub words_are : words ≡ codes "run" ∷ name ∷ slot_word given ∷ decimal anchors ∷ decimal workers ∷ []
+  -- NAME is the name of a file
   pub named : IsName name
+  -- SLOT, where it is a number, has 32 bits
   pub fits : FitsWord given
+  -- so has ANCHORS
   pub anchors_fit : anchors < 2 ^ 32
+  -- and so has WORKERS
   pub workers_fit : workers < 2 ^ 32
 
 -- the words are a line `run`
@@ -50,10 +66,15 @@ IsRunLine words = (name : List ℕ) × (given : Option ℕ) × (anchors workers 
 
 -- `bench NAME SEED WORKERS COUNT`
 pub record IsBench (words : List (List ℕ)) (name : List ℕ) (seed workers count : ℕ) : Type 0 where
+  -- the words
   pub words_are : words ≡ codes "bench" ∷ name ∷ decimal seed ∷ decimal workers ∷ decimal count ∷ []
+  -- NAME is the name of a file
   pub named : IsName name
+  -- SEED has 64 bits
   pub fits : seed < 2 ^ 64
+  -- WORKERS has 32 bits
   pub workers_fit : workers < 2 ^ 32
+  -- and so has COUNT
   pub count_fit : count < 2 ^ 32
 
 -- the words are a line `bench`
@@ -62,8 +83,11 @@ IsBenchLine words = (name : List ℕ) × (seed workers count : ℕ) × IsBench w
 
 -- `migrate NAME SLOT`
 pub record IsMigrate (words : List (List ℕ)) (name : List ℕ) (slot : ℕ) : Type 0 where
+  -- the words
   pub words_are : words ≡ codes "migrate" ∷ name ∷ decimal slot ∷ []
+  -- NAME is the name of a file
   pub named : IsName name
+  -- SLOT has 32 bits
   pub fits : slot < 2 ^ 32
 
 -- the words are a command line of the table

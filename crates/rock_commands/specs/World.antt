@@ -30,8 +30,11 @@ world_of files faults made ended taken sink_faults left source_faults volume out
 
 -- Which of the three tell what they hold. Of what is not told nothing is said.
 pub record Tells : Type 0 where
+  -- the volume tells its files
   pub volume : Bool
+  -- the sink tells what it took
   pub sink : Bool
+  -- the source tells what is left of the script
   pub source : Bool
 
 abbrev pub telling : (volume sink source : Bool) → Tells

@@ -45,6 +45,15 @@ use std::thread::Threads;
 /// `bench NAME SEED WORKERS COUNT` makes the file NAME with 64 slots of 512 bytes for each worker, runs the script of a
 /// benchmark over it, which is made from SEED and has COUNT rounds, and prints the one line
 /// `bench requests=R hits=H misses=M stored=T purged=P none=N other=O bytes=B`. It and `run` start threads and wait.
+///
+/// The clauses say what is in files where the volume tells them, what was printed where the sink tells what it took, and
+/// what the script is where its source tells it (`telling`). Files of the system, standard output and standard input tell
+/// nothing: of them no clause says what they hold.
+///
+/// Opening a file cuts its bytes into cells: the header area, and the slots. So a file as opening cuts it has the bytes
+/// that it had. The file is out while a store has its cells. A station reads and writes cells, and counts its calls that
+/// failed; when it is ended, the volume keeps its count behind those of the stations before it. [`Status`] says what the
+/// numbers of `BadGeometry` stand for.
 pub fn rock<R: Threads + Wait + Sync, V: Volume, S: Source, K: Sink>(
     rt: &R,
     alloc: Global,

@@ -2,7 +2,8 @@
 use Rattle.std.proofs.Common.{◌≡◌, refl, arith}
 use Rattle.rock_status.specs.Status.{code_of}
 use Rattle.rock_status.specs.declared.status.Status.{Status}
-use Rattle.rock_status.specs.declared.status.Status.TheVariants.{Done, Usage, Memory, SourceFault, SinkFault, DeviceFault, BadScript, Missing, Small, BadGeometry, Exists}
+use Rattle.rock_status.specs.declared.status.Status.TheVariants.{Done, Usage, Memory, SourceFault, SinkFault, DeviceFault, BadScript}
+use Rattle.rock_status.specs.declared.status.Status.TheVariants.{Missing, Small, BadGeometry, Exists}
 
 pub of_usage : (status : Status) → code_of status ≡ 2 → status ≡ Usage
 of_usage Done is = absurd (omega (arith, is))

@@ -25,16 +25,19 @@ one_count : (files : Files) (name : List ℕ) (slot n m : ℕ) → HasSlots file
 one_count files name slot n m h k = h.count ∙ ap (λ f. slots_of (length (bytes_of f)) slot) (one_file h.there k.there) ∙ sym k.count
 
 pub fits_not : (files : Files) (name : List ℕ) (slot anchors : ℕ) → IsUnfit files name slot anchors → Fits files name slot anchors → ⊥
-fits_not files name slot anchors unfit fit = unfit.2 (subst (IsAnchors anchors) (one_count files name slot fit.0 unfit.0 fit.1 unfit.1) fit.2)
+fits_not files name slot anchors unfit fit = unfit.2 (subst (IsAnchors anchors)
+    (one_count files name slot fit.0 unfit.0 fit.1 unfit.1) fit.2)
 
 -- whether anchors fit can be told
 as_anchors : (anchors slots : ℕ) → ((IsAnchors anchors slots → ⊥) → ⊥) → IsAnchors anchors slots
 as_anchors anchors slots h = record { from = at_most 1 anchors (λ n. h (λ z. n z.from)); to = at_most anchors slots (λ n. h (λ z. n z.to)) }
 
 -- a file that was opened fits, where none is refused that does not
-pub fits_when_opened : (before after : Files) (name : List ℕ) (slot anchors bytes : ℕ) (header : CellState) (cells : List CellState) → HasShape slot bytes header cells → IsOpened before after name slot bytes header cells
+pub fits_when_opened : (before after : Files) (name : List ℕ) (slot anchors bytes : ℕ) (header : CellState) (cells : List CellState)
+    → HasShape slot bytes header cells → IsOpened before after name slot bytes header cells
     → ((slots : ℕ) → HasSlots before name slot slots → (IsAnchors anchors slots → ⊥) → ⊥) → Fits before name slot anchors
 fits_when_opened before after name slot anchors bytes header cells shape opened not =
     let slots = slots_of (length (bytes_of opened.was)) slot in
-    let has : HasSlots before name slot (slots_of (length (bytes_of opened.was)) slot) = record { was = opened.was; there = opened.found; long = omega (arith, shape.room, opened.size); count = refl } in
+    let has : HasSlots before name slot (slots_of (length (bytes_of opened.was)) slot) =
+    record { was = opened.was; there = opened.found; long = omega (arith, shape.room, opened.size); count = refl } in
     (slots, has, as_anchors anchors slots (not slots has))

@@ -23,25 +23,34 @@ no_header : (given : Option ℕ) (bytes : ℕ) → bytes < HEADER_BYTES → IsSh
 no_header (Some slot) bytes lt = omega (arith, lt)
 no_header None bytes lt = (512, record { from = omega arith; to = omega arith; multiple = refl }, omega (arith, lt))
 
-pub unfound_ends : (given : Option ℕ) (anchors : ℕ) (before after : Counts) (fault : FindFault) (s : Status) → s ≡ status_of_find fault → NoStation before after
+pub unfound_ends : (given : Option ℕ) (anchors : ℕ) (before after : Counts) (fault : FindFault) (s : Status) → s ≡ status_of_find fault
+    → NoStation before after
     → ((bytes : ℕ) → IsErrOf {T = ℕ} (Err fault) (finding.Small bytes) → bytes < HEADER_BYTES)
     → ((field : ℕ) → IsErrOf {T = ℕ} (Err fault) (finding.BadGeometry field) → IsUnknown given field)
     → (IsErrOf {T = ℕ} (Err fault) finding.Failed → Rose before.faults after.faults)
     → FoundEnds given anchors before after s
-unfound_ends given anchors before after finding.Missing s h none short fields failed = subst (FoundEnds given anchors before after) (sym h) none
-unfound_ends given anchors before after (finding.Small bytes) s h none short fields failed = subst (FoundEnds given anchors before after) (sym h) (no_header given bytes (short bytes refl), none)
-unfound_ends given anchors before after (finding.BadGeometry field) s h none short fields failed = subst (FoundEnds given anchors before after) (sym h) (inl (fields field refl), none)
-unfound_ends given anchors before after finding.Failed s h none short fields failed = subst (FoundEnds given anchors before after) (sym h) (inl (failed refl))
-unfound_ends given anchors before after finding.Memory s h none short fields failed = subst (FoundEnds given anchors before after) (sym h) tt
+unfound_ends given anchors before after finding.Missing s h none short fields failed =
+    subst (FoundEnds given anchors before after) (sym h) none
+unfound_ends given anchors before after (finding.Small bytes) s h none short fields failed =
+    subst (FoundEnds given anchors before after) (sym h) (no_header given bytes (short bytes refl), none)
+unfound_ends given anchors before after (finding.BadGeometry field) s h none short fields failed =
+    subst (FoundEnds given anchors before after) (sym h) (inl (fields field refl), none)
+unfound_ends given anchors before after finding.Failed s h none short fields failed =
+    subst (FoundEnds given anchors before after) (sym h) (inl (failed refl))
+unfound_ends given anchors before after finding.Memory s h none short fields failed =
+    subst (FoundEnds given anchors before after) (sym h) tt
 
-pub unfound_says : (files : Files) (name : List ℕ) (given : Option ℕ) (anchors : ℕ) (fault : FindFault) (s : Status) → s ≡ status_of_find fault → FindingSays files name given fault → FileSays files name given anchors s
+pub unfound_says : (files : Files) (name : List ℕ) (given : Option ℕ) (anchors : ℕ) (fault : FindFault) (s : Status)
+    → s ≡ status_of_find fault → FindingSays files name given fault → FileSays files name given anchors s
 unfound_says files name given anchors finding.Missing s h says = subst (FileSays files name given anchors) (sym h) says
 unfound_says files name given anchors (finding.Small bytes) s h says = subst (FileSays files name given anchors) (sym h) (inl says)
-unfound_says files name given anchors (finding.BadGeometry field) s h says = subst (FileSays files name given anchors) (sym h) (unknown_says files name given field says)
+unfound_says files name given anchors (finding.BadGeometry field) s h says =
+    subst (FileSays files name given anchors) (sym h) (unknown_says files name given field says)
 unfound_says files name given anchors finding.Failed s h says = subst (FileSays files name given anchors) (sym h) tt
 unfound_says files name given anchors finding.Memory s h says = subst (FileSays files name given anchors) (sym h) tt
 
-pub unfound_refused : (tells : Bool) (files : Files) (name : List ℕ) (given : Option ℕ) (anchors : ℕ) (before after : Counts) (fault : FindFault) (s : Status) → s ≡ status_of_find fault → NoStation before after
+pub unfound_refused : (tells : Bool) (files : Files) (name : List ℕ) (given : Option ℕ) (anchors : ℕ) (before after : Counts)
+    (fault : FindFault) (s : Status) → s ≡ status_of_find fault → NoStation before after
     → (IsTrue tells → (slot : ℕ) → FindsSlot files name given slot → AnswersOrFails (Ok slot) (Err fault))
     → (IsTrue tells → get files name ≡ None → IsErrOf {T = ℕ} (Err fault) finding.Missing)
     → (IsTrue tells → (bytes : ℕ) → IsSmall files name 0 bytes → IsErrOf {T = ℕ} (Err fault) (finding.Small bytes))

@@ -13,19 +13,23 @@ use Rattle.run_command.specs.Faults.{status_of_script}
 use Rattle.run_command.specs.Says.{IsRunRefused, OrUnread}
 
 -- where the text is a script, reading it met a fault or want of memory
-unread : (HasFailed : Type 0) (due : Status) (fault : ScriptFault) → Explains (λ _ _. ⊥) HasFailed fault → OrUnread due (status_of_script fault)
+unread : (HasFailed : Type 0) (due : Status) (fault : ScriptFault) → Explains (λ _ _. ⊥) HasFailed fault
+    → OrUnread due (status_of_script fault)
 unread HasFailed due (BadLine line cause) h = absurd h
 unread HasFailed due Failed h = inr (inl refl)
 unread HasFailed due Memory h = inr (inr refl)
 
-bad_line : (HasFailed : Type 0) (line cause : ℕ) (fault : ScriptFault) → Explains (λ l c. (l ≡ line) × (c ≡ cause)) HasFailed fault → OrUnread (BadScript line cause) (status_of_script fault)
+bad_line : (HasFailed : Type 0) (line cause : ℕ) (fault : ScriptFault) → Explains (λ l c. (l ≡ line) × (c ≡ cause)) HasFailed fault
+    → OrUnread (BadScript line cause) (status_of_script fault)
 bad_line HasFailed line cause (BadLine l c) h = inl (ap (λ n. BadScript n c) h.0 ∙ ap (BadScript line) h.1)
 bad_line HasFailed line cause Failed h = inr (inl refl)
 bad_line HasFailed line cause Memory h = inr (inr refl)
 
-pub unread_refused : (source_tells volume_tells : Bool) (text : List ℕ) (files : Files) (name : List ℕ) (given : Option ℕ) (anchors workers : ℕ) (before : Counts) (HasFailed : Type 0) (fault : ScriptFault)
+pub unread_refused : (source_tells volume_tells : Bool) (text : List ℕ) (files : Files) (name : List ℕ) (given : Option ℕ)
+    (anchors workers : ℕ) (before : Counts) (HasFailed : Type 0) (fault : ScriptFault)
     → ((lines : List Line) → IsTrue source_tells → IsScript workers text lines → Explains (λ _ _. ⊥) HasFailed fault)
-    → ((line cause : ℕ) → IsTrue source_tells → IsBadScript workers text line cause → Explains (λ l c. (l ≡ line) × (c ≡ cause)) HasFailed fault)
+    → ((line cause : ℕ) → IsTrue source_tells → IsBadScript workers text line cause
+    → Explains (λ l c. (l ≡ line) × (c ≡ cause)) HasFailed fault)
     → IsRunRefused source_tells volume_tells text files name given anchors workers before before (status_of_script fault)
 unread_refused source_tells volume_tells text files name given anchor_count worker_count before HasFailed fault good bad =
     let none : NoStation before before = record { made = refl; ended = refl } in

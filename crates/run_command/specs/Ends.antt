@@ -8,7 +8,8 @@ use Rattle.rock_open.specs.Opening.{IsBeyond, IsPasses}
 use Rattle.rock_run.specs.Device.{HasEnded, RunFailed}
 use Rattle.slot_finding.specs.Finding.{IsGiven, IsUnknown}
 use Rattle.rock_status.specs.declared.status.Status.{Status}
-use Rattle.rock_status.specs.declared.status.Status.TheVariants.{BadGeometry, BadScript, DeviceFault, Done, Exists, Memory, Missing, SinkFault, Small, SourceFault, Usage}
+use Rattle.rock_status.specs.declared.status.Status.TheVariants.{BadGeometry, BadScript, DeviceFault, Done, Exists, Memory, Missing}
+use Rattle.rock_status.specs.declared.status.Status.TheVariants.{SinkFault, Small, SourceFault, Usage}
 
 -- so few bytes are too few for the header area and a slot, of the size that is given or of one that slots may have
 abbrev pub IsShort : (given : Option ℕ) → (bytes : ℕ) → Type 0

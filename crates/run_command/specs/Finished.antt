@@ -13,10 +13,13 @@ pub record IsFinishedRun (source_tells volume_tells : Bool) (script script_after
     (given : Option ℕ) (anchors workers : ℕ) (before after : Counts) : Type 0 where
   -- The script was read to its end, and has these lines.
   pub lines : List Line
+  -- The source gave them.
   pub read : GivesScript source_tells workers script script_after lines
   -- The slots of the file have this size.
   pub slot : ℕ
+  -- It was given, or the file tells it.
   pub sized : IsSlotOf volume_tells files name given slot
   -- The lines were served over the file, and answered so.
   pub answers : List (List (ℕ × Answer))
+  -- This was so, and what was left of the file is said with it.
   pub served : WasServed volume_tells files files_after name slot anchors workers lines answers before after

@@ -4,7 +4,8 @@ use Rattle.rock_disk.specs.File.{Files}
 use Rattle.rock_disk.specs.Counts.{Counts}
 use Rattle.run_rules.specs.Left.{IsGivenBack}
 use Rattle.rock_status.specs.declared.status.Status.{Status}
-use Rattle.rock_status.specs.declared.status.Status.TheVariants.{BadGeometry, BadScript, DeviceFault, Done, Exists, Memory, Missing, SinkFault, Small, SourceFault, Usage}
+use Rattle.rock_status.specs.declared.status.Status.TheVariants.{BadGeometry, BadScript, DeviceFault, Done, Exists, Memory, Missing}
+use Rattle.rock_status.specs.declared.status.Status.TheVariants.{SinkFault, Small, SourceFault, Usage}
 use Rattle.script_text.specs.Script.{GivesScript}
 use Rattle.script_text.specs.declared.line.Line.{Line}
 use Rattle.slot_finding.specs.Finding.{IsKeptFor}
@@ -21,9 +22,11 @@ module _ (source_tells volume_tells : Bool) (script script_after : List ℕ) (fi
   pub record LeavesClosed : Type 0 where
     -- The script was read to its end, and has these lines.
     pub lines : List Line
+    -- The source gave them.
     pub read : GivesScript source_tells workers script script_after lines
     -- The slots of the file have this size.
     pub slot : ℕ
+    -- It was given, or the file tells it.
     pub sized : IsSlotOf volume_tells files name given slot
     -- The file is back. What a crash leaves of it has responses of the file and of the script alone.
     pub file : IsTrue volume_tells → IsGivenBack files files_after name slot lines

@@ -14,12 +14,15 @@ pub record PrintsPlainly (script : List ℕ) (files files_after : Files) (name :
     (taken taken_after : List ℕ) : Type 0 where
   -- The slots of the file have this size.
   pub slot : ℕ
+  -- It was given, or the file tells it.
   pub found : FindsSlot files name given slot
   -- The script has these lines.
   pub lines : List Line
+  -- They are lines for one worker.
   pub read : IsScript 1 script lines
   -- A plain store that is opened on the file answers them so, and the file that was given back has its entries.
   pub answers : List (List (ℕ × Answer))
+  -- This is so of these answers.
   pub answered : IsAnsweredPlainly files files_after name slot anchors lines answers
   -- The text of the answers was printed.
   pub printed : taken_after ≡ taken ++ text_of answers

@@ -6,7 +6,8 @@ use Rattle.rock_disk.specs.Opened.{IsSmall}
 use Rattle.rock_disk.specs.Counts.{Counts, NoStation}
 use Rattle.rock_open.specs.Opening.{HasSlots, IsAnchors, IsPasses}
 use Rattle.rock_status.specs.declared.status.Status.{Status}
-use Rattle.rock_status.specs.declared.status.Status.TheVariants.{BadGeometry, BadScript, DeviceFault, Done, Memory, Missing, SinkFault, Small, SourceFault, Usage}
+use Rattle.rock_status.specs.declared.status.Status.TheVariants.{BadGeometry, BadScript, DeviceFault, Done, Memory, Missing, SinkFault}
+use Rattle.rock_status.specs.declared.status.Status.TheVariants.{Small, SourceFault, Usage}
 use Rattle.script_text.specs.Script.{GivesBadLine, GivesScript, IsBadScript, IsScript}
 use Rattle.script_text.specs.declared.line.Line.{Line}
 use Rattle.slot_finding.specs.Faults.{OrFailed}

@@ -1,5 +1,6 @@
 -- Each line of a script has one answer, where each is for one of the workers.
-use Rattle.std.proofs.Common.{Bool, Contains, List, [], ap, arith, cond, false, length, map, refl, suc, sym, true, zero, ⊎_elim, ◌+◌, ◌<◌, ◌==◌, ◌∙◌, ◌∷◌, ◌≡◌, ◌≤◌, ℕ}
+use Rattle.std.proofs.Common.{Bool, Contains, List, [], ap, arith, cond, false, length, map, refl, suc, sym, true, zero, ⊎_elim, ◌+◌, ◌<◌}
+use Rattle.std.proofs.Common.{◌==◌, ◌∙◌, ◌∷◌, ◌≡◌, ◌≤◌, ℕ}
 use Rattle.std.proofs.lemmas.Bool.{eq-eqb, ne_eqb}
 use Rattle.std.proofs.lemmas.List.{length-map}
 use Rattle.std.proofs.lemmas.List.Elements.{Contains-append_right}
@@ -20,7 +21,8 @@ is_for worker line = line.worker == worker
 abbrev lines_for : (worker : ℕ) → List Line → ℕ
 lines_for worker lines = count_by (is_for worker) lines
 
-one_more : (worker : ℕ) (line : Line) (lines : List Line) → lines_for worker (line ∷ lines) ≡ cond (line.worker == worker) 1 0 + lines_for worker lines
+one_more : (worker : ℕ) (line : Line) (lines : List Line) → lines_for worker (line ∷ lines) ≡ cond
+    (line.worker == worker) 1 0 + lines_for worker lines
 unfolding is_for
 one_more worker line lines = sum_by-cons (λ l. cond (l.worker == worker) 1 0) line lines
 
@@ -49,29 +51,34 @@ earlier : (n many : ℕ) (line : Line) (lines : List Line) → line.worker ≤ n
 earlier n zero line lines low = refl
 earlier n (suc many) line lines low =
     let other : (line.worker == n + 1) ≡ false = ne_eqb line.worker (n + 1) (λ e. omega arith) in
-    let first : lines_for (n + 1) (line ∷ lines) ≡ 0 + lines_for (n + 1) lines = one_more (n + 1) line lines ∙ ap (λ (b : Bool). cond b 1 0 + lines_for (n + 1) lines) other in
+    let first : lines_for (n + 1) (line ∷ lines) ≡ 0 + lines_for (n + 1) lines = one_more (n + 1) line lines
+    ∙ ap (λ (b : Bool). cond b 1 0 + lines_for (n + 1) lines) other in
     let rest = earlier (n + 1) many line lines (omega arith) in
     omega (arith, first, rest)
 
 -- and one of theirs for one
-within_counts : (n many : ℕ) (line : Line) (lines : List Line) → n < line.worker → line.worker ≤ n + many → lines_behind n many (line ∷ lines) ≡ 1 + lines_behind n many lines
+within_counts : (n many : ℕ) (line : Line) (lines : List Line) → n < line.worker → line.worker ≤ n + many
+    → lines_behind n many (line ∷ lines) ≡ 1 + lines_behind n many lines
 within_counts n zero line lines low high = absurd (omega arith)
 within_counts n (suc many) line lines low high =
     ⊎_elim
     (λ (first : line.worker ≤ n + 1).
     let same : (line.worker == n + 1) ≡ true = eq-eqb line.worker (n + 1) (omega arith) in
-    let here : lines_for (n + 1) (line ∷ lines) ≡ 1 + lines_for (n + 1) lines = one_more (n + 1) line lines ∙ ap (λ (b : Bool). cond b 1 0 + lines_for (n + 1) lines) same in
+    let here : lines_for (n + 1) (line ∷ lines) ≡ 1 + lines_for (n + 1) lines = one_more (n + 1) line lines
+    ∙ ap (λ (b : Bool). cond b 1 0 + lines_for (n + 1) lines) same in
     let rest = earlier (n + 1) many line lines first in
     omega (arith, here, rest))
     (λ (later : n + 1 < line.worker).
     let other : (line.worker == n + 1) ≡ false = ne_eqb line.worker (n + 1) (λ e. omega arith) in
-    let here : lines_for (n + 1) (line ∷ lines) ≡ 0 + lines_for (n + 1) lines = one_more (n + 1) line lines ∙ ap (λ (b : Bool). cond b 1 0 + lines_for (n + 1) lines) other in
+    let here : lines_for (n + 1) (line ∷ lines) ≡ 0 + lines_for (n + 1) lines = one_more (n + 1) line lines
+    ∙ ap (λ (b : Bool). cond b 1 0 + lines_for (n + 1) lines) other in
     let rest = within_counts (n + 1) many line lines later (omega arith) in
     omega (arith, here, rest))
     (not_above line.worker (n + 1))
 
 -- all lines are for one of the workers
-all_within : (workers : ℕ) (lines : List Line) → ((line : Line) → Contains lines line → (1 ≤ line.worker) × (line.worker ≤ workers)) → lines_behind 0 workers lines ≡ length lines
+all_within : (workers : ℕ) (lines : List Line) → ((line : Line) → Contains lines line → (1 ≤ line.worker) × (line.worker ≤ workers))
+    → lines_behind 0 workers lines ≡ length lines
 all_within workers [] within = none_behind 0 workers
 all_within workers (line ∷ lines) within =
     let bounds = within line (0, (omega arith), refl) in
@@ -89,7 +96,8 @@ served_lines n [] script each = refl
 served_lines {H} n (a ∷ accounts) script each =
     let stages : length (answers_of a) ≡ length a.stages = length-map a.stages (λ (s : Stage H). (s.line.number, s.answer)) in
     let lines : length a.stages ≡ lines_for (n + 1) script =
-    sym (length-map a.stages (λ (s : Stage H). (s.place, s.line))) ∙ ap length (each 0 a refl) ∙ ap (λ (w : ℕ). length (lines_of w script)) (omega arith) ∙ counted_from (n + 1) 0 script in
+    sym (length-map a.stages (λ (s : Stage H). (s.place, s.line))) ∙ ap length (each 0 a refl)
+    ∙ ap (λ (w : ℕ). length (lines_of w script)) (omega arith) ∙ counted_from (n + 1) 0 script in
     let rest = served_lines (n + 1) accounts script (λ w b at. each (suc w) b at ∙ ap (λ (v : ℕ). lines_of v script) (omega arith)) in
     let sum = sum_by-cons (λ (mine : List (ℕ × Answer)). length mine) (answers_of a) (map answers_of accounts) in
     omega (arith, stages, lines, rest, sum)

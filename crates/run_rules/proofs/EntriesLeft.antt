@@ -1,5 +1,6 @@
 -- What a file that was given back has of the entries that stood closed at the end.
-use Rattle.std.proofs.Common.{All, Bool, Contains, IsTrue, List, [], ap, arith, inl, inr, length, map, refl, subst, suc, sym, zero, ◌+◌, ◌-◌, ◌<◌, ◌∙◌, ◌∷◌, ◌≡◌, ◌≤◌, ℕ}
+use Rattle.std.proofs.Common.{All, Bool, Contains, IsTrue, List, [], ap, arith, inl, inr, length, map, refl, subst, suc, sym, zero, ◌+◌}
+use Rattle.std.proofs.Common.{◌-◌, ◌<◌, ◌∙◌, ◌∷◌, ◌≡◌, ◌≤◌, ℕ}
 use mathlib.Core.Logic.{dite}
 use mathlib.Core.Option.{some, some-injective, some-ne-none}
 use native.Mathlib.Decide.{ℕ_discrete}
@@ -55,7 +56,8 @@ use Rattle.run_rules.proofs.Opened.{has_played, same_state}
 
 -- the law that at most one complete entry begins at a slot
 abbrev pub OneAtASlot : Type 0
-OneAtASlot = (slot : ℕ) (images : List (List ℕ)) (e f : Entry) → IsComplete slot images e → IsComplete slot images f → e.first ≡ f.first → e ≡ f
+OneAtASlot = (slot : ℕ) (images : List (List ℕ)) (e f : Entry) → IsComplete slot images e → IsComplete slot images f → e.first ≡ f.first
+    → e ≡ f
 
 -- what a `save` stores
 record Saves (request : Request) : Type 0 where
@@ -88,15 +90,21 @@ some_items x xs ys e = let n = ap length e in omega arith
 first_items : (x y : ℕ) (xs ys : List ℕ) → ◌≡◌ {A = List ℕ} (x ∷ xs) (y ∷ ys) → x ≡ y
 first_items x y xs ys e = cc
 
-module _ {C St : Type 0} (volume_tells told : Bool) (state : C → CellState) (faults : St → ℕ) (files left : Files) (name : List ℕ) (slot anchors workers : ℕ) (script : List Line) (answers : List (List (ℕ × Answer)))
-    (before after : Counts) (h : HasRun volume_tells told state files left name slot anchors workers script faults answers before after) where
-  -- a pass was there at the closing with what it knew at its end
-  pub view_there : (w : ℕ) (account : Account (OnShelf C (List Line) St)) → get_elem? h.served.played.accounts w ≡ some account → get_elem? (views_of h.closed.left) w ≡ some (view account.end.pass)
-  view_there w account at = ap (λ (ps : List (Pass C)). get_elem? (map view ps) w) (sym h.served.played.passes_left_are)
-      ∙ map_at view (map (λ (a : Account (OnShelf C (List Line) St)). a.end.pass) h.served.played.accounts) w account.end.pass (map_at (λ (a : Account (OnShelf C (List Line) St)). a.end.pass) h.served.played.accounts w account at)
+module _ {C St : Type 0} (volume_tells told : Bool) (state : C → CellState) (faults : St → ℕ) (files left : Files) (name : List ℕ)
+    (slot anchors workers : ℕ) (script : List Line) (answers : List (List (ℕ × Answer)))
+    (before after : Counts) (h : HasRun volume_tells told state files left name slot anchors workers script faults answers before after)
+  where
+    -- a pass was there at the closing with what it knew at its end
+    pub view_there : (w : ℕ) (account : Account (OnShelf C (List Line) St)) → get_elem? h.served.played.accounts w ≡ some account
+        → get_elem? (views_of h.closed.left) w ≡ some (view account.end.pass)
+    view_there w account at = ap (λ (ps : List (Pass C)). get_elem? (map view ps) w) (sym h.served.played.passes_left_are)
+        ∙ map_at view (map (λ (a : Account (OnShelf C (List Line) St)). a.end.pass) h.served.played.accounts) w account.end.pass
+        (map_at (λ (a : Account (OnShelf C (List Line) St)). a.end.pass) h.served.played.accounts w account at)
 
-module _ {C St : Type 0} (volume_tells told : Bool) (state : C → CellState) (faults : St → ℕ) (files left : Files) (name : List ℕ) (slot anchors workers : ℕ) (script : List Line) (answers : List (List (ℕ × Answer)))
-    (before after : Counts) (h : HasRun volume_tells told state files left name slot anchors workers script faults answers before after) (tells : IsTrue volume_tells) where
+module _ {C St : Type 0} (volume_tells told : Bool) (state : C → CellState) (faults : St → ℕ) (files left : Files) (name : List ℕ)
+    (slot anchors workers : ℕ) (script : List Line) (answers : List (List (ℕ × Answer)))
+    (before after : Counts) (h : HasRun volume_tells told state files left name slot anchors workers script faults answers before after)
+    (tells : IsTrue volume_tells) where
   abbrev g : Ground (List ℕ)
   g = basis told state offers_of h.closed.store
 
@@ -121,23 +129,30 @@ module _ {C St : Type 0} (volume_tells told : Bool) (state : C → CellState) (f
 
   -- what is said of the state of the closing behind all workers is said of the last one
   abbrev pub OfLines : State (List ℕ) → Type 0
-  OfLines s = (a : ℕ) → a < g.setting.anchors → stage_of (epoch_of (word s a)) ≡ 3 → doom_of (epoch_of (word s a)) ≡ 0 → opening_counter g.setting < version_of (epoch_of (word s a))
+  OfLines s = (a : ℕ) → a < g.setting.anchors → stage_of (epoch_of (word s a)) ≡ 3 → doom_of (epoch_of (word s a)) ≡ 0
+      → opening_counter g.setting < version_of (epoch_of (word s a))
       → IsOfLine g script accounts a (version_of (epoch_of (word s a))) (side_word g.setting s Offer a)
 
-  pub here_too : OfLines (has_played volume_tells told state faults files left name slot anchors workers script answers before after h).closed.gathered.state → OfLines last
-  here_too of = subst OfLines (same_state volume_tells told state faults files left name slot anchors workers script answers before after h) of
+  pub here_too : OfLines (has_played volume_tells told state faults files left name slot anchors workers script answers before after
+      h).closed.gathered.state → OfLines last
+  here_too of = subst OfLines (same_state volume_tells told state faults files left name slot anchors workers script answers before after h)
+      of
 
   -- what other laws say, as they are used here
   pub record Laws : Type 0 where
     pub wins : (a : ℕ) → a < anchors → stage_of (epoch_of (word last a)) ≡ 3 → HaveEntry slot anchors g images last rule.logged.log cells a
-    pub of_line : (a : ℕ) → a < g.setting.anchors → stage_of (epoch_of (word last a)) ≡ 3 → doom_of (epoch_of (word last a)) ≡ 0 → opening_counter g.setting < version_of (epoch_of (word last a))
+    pub of_line : (a : ℕ) → a < g.setting.anchors → stage_of (epoch_of (word last a)) ≡ 3 → doom_of (epoch_of (word last a)) ≡ 0
+        → opening_counter g.setting < version_of (epoch_of (word last a))
         → IsOfLine g script accounts a (version_of (epoch_of (word last a))) (side_word g.setting last Offer a)
-    pub lasts : (w : ℕ) (account : Account (OnShelf C (List Line) St)) → get_elem? accounts w ≡ some account → (x : Stage (OnShelf C (List Line) St)) → Contains account.stages x
+    pub lasts : (w : ℕ) (account : Account (OnShelf C (List Line) St)) → get_elem? accounts w ≡ some account
+        → (x : Stage (OnShelf C (List Line) St)) → Contains account.stages x
         → (url : List ℕ) (body : Body) (version : ℕ) → x.line.request ≡ Save url body → x.answer ≡ Stored version
         → version_of (epoch_of (word last (anchor_for g url))) ≡ version → stage_of (epoch_of (word last (anchor_for g url))) ≡ 3
         → IsLasting g last rule.logged.log (anchor_for g url) × (offer_at g last (anchor_for g url) ≡ g.setting.slots + x.line.number)
-    pub offers : (w : ℕ) (account : Account (OnShelf C (List Line) St)) → get_elem? accounts w ≡ some account → (x : Stage (OnShelf C (List Line) St)) → Contains account.stages x
-        → (url : List ℕ) (body : Body) → x.line.request ≡ Save url body → IsOfferedTo told state offers_of h.closed.store (offer_of told state offers_of h.closed.store x.line.number) url body
+    pub offers : (w : ℕ) (account : Account (OnShelf C (List Line) St)) → get_elem? accounts w ≡ some account
+        → (x : Stage (OnShelf C (List Line) St)) → Contains account.stages x
+        → (url : List ℕ) (body : Body) → x.line.request ≡ Save url body
+        → IsOfferedTo told state offers_of h.closed.store (offer_of told state offers_of h.closed.store x.line.number) url body
 
   module _ (laws : Laws) where
     module _ (a : ℕ) (lt : a < anchors) (stage : stage_of (epoch_of (word last a)) ≡ 3) where
@@ -161,11 +176,13 @@ module _ {C St : Type 0} (volume_tells told : Bool) (state : C → CellState) (f
           (λ ne. omega arith)
 
       -- what is kept of the entry, by its URL and its body
-      kept : (found : List (List ℕ)) (url body : List ℕ) → have.entry.url ≡ url → have.entry.body ≡ body → IsWinner slot found anchors a have.entry → KeepsAt slot anchors found a (version_at a) url body
+      kept : (found : List (List ℕ)) (url body : List ℕ) → have.entry.url ≡ url → have.entry.body ≡ body
+          → IsWinner slot found anchors a have.entry → KeepsAt slot anchors found a (version_at a) url body
       kept found url body u b won = record { entry = have.entry; won = won; version_is = have.is.version_is; url_is = u; body_is = b }
 
       -- it outlives a crash where a `save` line stored it
-      line_lasts : (l : IsOfLine g script accounts a (version_of (epoch_of (word last a))) (side_word g.setting last Offer a)) → IsSave l.line.request → IsLasting g last rule.logged.log a
+      line_lasts : (l : IsOfLine g script accounts a (version_of (epoch_of (word last a))) (side_word g.setting last Offer a))
+          → IsSave l.line.request → IsLasting g last rule.logged.log a
       line_lasts l save =
           let stored = l.saved save in
           let what = saves l.line.request save in
@@ -176,7 +193,8 @@ module _ {C St : Type 0} (volume_tells told : Bool) (state : C → CellState) (f
           (laws.lasts stored.w stored.account stored.at stored.stage stored.among what.url what.body (version_at a) is stored.answered
           (ap (λ (b : ℕ). version_of (epoch_of (word last b))) at) (ap (λ (b : ℕ). stage_of (epoch_of (word last b))) at ∙ stage)).0
 
-      as_before : offer_at g last a < g.setting.slots → StandsAsBefore slot anchors images script cells a (version_of (epoch_of (word last a)))
+      as_before : offer_at g last a < g.setting.slots → StandsAsBefore slot anchors images script cells a
+          (version_of (epoch_of (word last a)))
       as_before low = record {
         url = have.entry.url;
         body = have.entry.body;
@@ -185,7 +203,8 @@ module _ {C St : Type 0} (volume_tells told : Bool) (state : C → CellState) (f
         left = λ crashed crash. kept crashed have.entry.url have.entry.body refl refl (have.left crashed crash (inl low));
       }
 
-      as_offered : doom_of (epoch_of (word last a)) ≡ 0 → g.setting.slots ≤ offer_at g last a → StandsAsOffered slot anchors images script cells a (version_of (epoch_of (word last a)))
+      as_offered : doom_of (epoch_of (word last a)) ≡ 0 → g.setting.slots ≤ offer_at g last a
+          → StandsAsOffered slot anchors images script cells a (version_of (epoch_of (word last a)))
       as_offered undoomed new =
           let l = laws.of_line a inside stage undoomed (high new) in
           let r = have.is.new new in
@@ -207,7 +226,8 @@ module _ {C St : Type 0} (volume_tells told : Bool) (state : C → CellState) (f
       -- By the plain store.
       module _ (one : OneAtASlot) (p : Plain) (e : PlainEntry) (sc : StandsClosed g last p a e) where
         contents : g.setting.contents ≡ images
-        contents = h.closed.opened.store.contents ∙ ap (λ (b : Bool). map (λ (c : C). (shown b state c).now) h.closed.opened.cells) (h.closed.opened.told tells)
+        contents = h.closed.opened.store.contents ∙ ap (λ (b : Bool). map (λ (c : C). (shown b state c).now) h.closed.opened.cells)
+            (h.closed.opened.told tells)
 
         low : e.offer < g.setting.slots → offer_at g last a < g.setting.slots
         low less = let z = sc.offer in omega arith
@@ -216,9 +236,11 @@ module _ {C St : Type 0} (volume_tells told : Bool) (state : C → CellState) (f
         same_old less =
             let o = sc.old less in
             let won = have.is.old (low less) in
-            let there = subst (λ (n : ℕ). IsComplete n images o.entry) h.closed.opened.store.slot_is (subst (λ (z : List (List ℕ)). IsComplete g.slot z o.entry) contents o.complete) in
+            let there = subst (λ (n : ℕ). IsComplete n images o.entry) h.closed.opened.store.slot_is
+            (subst (λ (z : List (List ℕ)). IsComplete g.slot z o.entry) contents o.complete) in
             one slot images have.entry o.entry won.complete there
-            (first_items have.entry.first o.entry.first won.complete.chain.behind there.chain.behind (sym won.complete.chain.begins ∙ have.is.chain_is ∙ sym o.chain ∙ there.chain.begins))
+            (first_items have.entry.first o.entry.first won.complete.chain.behind there.chain.behind
+            (sym won.complete.chain.begins ∙ have.is.chain_is ∙ sym o.chain ∙ there.chain.begins))
 
         names : (have.entry.url ≡ e.url) × (have.entry.body ≡ e.body)
         names = dite (ℕ_discrete (g.setting.slots - e.offer) 0)
@@ -228,23 +250,36 @@ module _ {C St : Type 0} (volume_tells told : Bool) (state : C → CellState) (f
               r.url ∙ ap (url_of g) sc.offer ∙ n.0,
               r.body ∙ ap (λ (m : ℕ). g.offers.body (m - g.setting.slots)) sc.offer ∙ n.1,
             ))
-            (λ ne. let less : e.offer < g.setting.slots = omega arith in (ap Entry.url (same_old less) ∙ (sc.old less).url_is, ap Entry.body (same_old less) ∙ (sc.old less).body_is))
+            (λ ne. let less : e.offer < g.setting.slots = omega arith in
+            (ap Entry.url (same_old less) ∙ (sc.old less).url_is, ap Entry.body (same_old less) ∙ (sc.old less).body_is))
 
-        pub kept_whole : (found : List (List ℕ)) → IsWinner slot found anchors a have.entry → KeepsAt slot anchors found a (place_at p a).version e.url e.body
-        kept_whole found won = record { entry = have.entry; won = won; version_is = have.is.version_is ∙ sc.version; url_is = names.0; body_is = names.1 }
+        pub kept_whole : (found : List (List ℕ)) → IsWinner slot found anchors a have.entry
+            → KeepsAt slot anchors found a (place_at p a).version e.url e.body
+        kept_whole found won = record {
+          entry = have.entry;
+          won = won;
+          version_is = have.is.version_is ∙ sc.version;
+          url_is = names.0;
+          body_is = names.1;
+        }
 
         pub kept_now : KeepsAt slot anchors (map (λ (c : C). (state c).now) h.closed.cells) a (place_at p a).version e.url e.body
-        kept_now = kept_whole (map (λ (c : C). (state c).now) h.closed.cells) (subst (λ (z : List (List ℕ)). IsWinner slot z anchors a have.entry) (both state (λ (c : CellState). c.now) h.closed.cells) have.now)
+        kept_now = kept_whole (map (λ (c : C). (state c).now) h.closed.cells)
+            (subst (λ (z : List (List ℕ)). IsWinner slot z anchors a have.entry)
+            (both state (λ (c : CellState). c.now) h.closed.cells) have.now)
 
         -- an entry that a `save` line stored, or that the file had
-        pub kept_left : AreInOrder script → doom_of (epoch_of (word last a)) ≡ 0 → WasKept (length h.closed.opened.cells) script e → (crashed : List (List ℕ)) → IsCrashImage cells crashed
+        pub kept_left : AreInOrder script → doom_of (epoch_of (word last a)) ≡ 0 → WasKept (length h.closed.opened.cells) script e
+            → (crashed : List (List ℕ)) → IsCrashImage cells crashed
             → KeepsAt slot anchors crashed a (place_at p a).version e.url e.body
         kept_left order undoomed was crashed crash = kept_whole crashed (have.left crashed crash (lasting was))
           where
-            saved : (line : Line) → Contains script line → line.number ≡ e.offer - length h.closed.opened.cells → IsSave line.request → g.setting.slots ≤ offer_at g last a → IsLasting g last rule.logged.log a
+            saved : (line : Line) → Contains script line → line.number ≡ e.offer - length h.closed.opened.cells → IsSave line.request
+                → g.setting.slots ≤ offer_at g last a → IsLasting g last rule.logged.log a
             saved line among number save new =
                 let l = laws.of_line a inside stage undoomed (high new) in
-                let same : line ≡ l.line = one_number script order line l.line among l.among (let z = l.offer_is in let y = sc.offer in let m = h.closed.opened.store.slots_are in omega arith) in
+                let same : line ≡ l.line = one_number script order line l.line among l.among
+                (let z = l.offer_is in let y = sc.offer in let m = h.closed.opened.store.slots_are in omega arith) in
                 line_lasts l (subst (λ (x : Line). IsSave x.request) same save)
 
             lasting : WasKept (length h.closed.opened.cells) script e → IsLasting g last rule.logged.log a
@@ -254,8 +289,10 @@ module _ {C St : Type 0} (volume_tells told : Bool) (state : C → CellState) (f
                 (λ ne. inl (omega arith))
 
     -- What a `save` line stored.
-    module _ (order : AreInOrder script) (line : Line) (url : List ℕ) (body : Body) (version : ℕ) (among : Contains script line) (is : line.request ≡ Save url body) (answered : IsAnswered answers line (Stored version))
-        (version_is : version_of (epoch_of (word last (anchor_of (key_of url) anchors))) ≡ version) (stage_is : stage_of (epoch_of (word last (anchor_of (key_of url) anchors))) ≡ 3) where
+    module _ (order : AreInOrder script) (line : Line) (url : List ℕ) (body : Body) (version : ℕ) (among : Contains script line)
+        (is : line.request ≡ Save url body) (answered : IsAnswered answers line (Stored version))
+        (version_is : version_of (epoch_of (word last (anchor_of (key_of url) anchors))) ≡ version)
+        (stage_is : stage_of (epoch_of (word last (anchor_of (key_of url) anchors))) ≡ 3) where
       abbrev there : ℕ
       there = anchor_of (key_of url) anchors
 
@@ -279,26 +316,41 @@ module _ {C St : Type 0} (volume_tells told : Bool) (state : C → CellState) (f
 
       its_stage : IsStage
       its_stage =
-          let i = image answers_of accounts (line.worker - 1) answered.mine (ap (λ z. get_elem? z (line.worker - 1)) h.served.played.answers_are ∙ answered.at) in
-          let m = contains_map (λ (x : Stage (OnShelf C (List Line) St)). (x.line.number, x.answer)) i.item.stages (line.number, Stored version)
+          let i = image answers_of accounts (line.worker - 1) answered.mine
+          (ap (λ z. get_elem? z (line.worker - 1)) h.served.played.answers_are ∙ answered.at) in
+          let m = contains_map (λ (x : Stage (OnShelf C (List Line) St)). (x.line.number, x.answer)) i.item.stages
+          (line.number, Stored version)
           (subst (λ (xs : List (ℕ × Answer)). Contains xs (line.number, Stored version)) (sym i.is) answered.among) in
           let played = h.served.played.each (line.worker - 1) i.item (at_place accounts (line.worker - 1) i.item i.at) in
           let own = in_script (line.worker - 1 + 1) script i.item.stages played.each m.0 m.1 in
           let same : m.0.line ≡ line = one_number script order m.0.line line own.0 among (ap (λ (q : ℕ × Answer). q.0) m.2) in
-          record { account = i.item; at = i.at; stage = m.0; has = m.1; request_is = ap Line.request same ∙ is; answer_is = ap (λ (q : ℕ × Answer). q.1) m.2 }
+          record {
+            account = i.item;
+            at = i.at;
+            stage = m.0;
+            has = m.1;
+            request_is = ap Line.request same ∙ is;
+            answer_is =
+                ap (λ (q : ℕ × Answer). q.1) m.2;
+          }
 
-      known : IsLasting g last rule.logged.log (anchor_for g url) × (offer_at g last (anchor_for g url) ≡ g.setting.slots + its_stage.stage.line.number)
-      known = laws.lasts (line.worker - 1) its_stage.account its_stage.at its_stage.stage its_stage.has url body version its_stage.request_is its_stage.answer_is
-          (ap (λ (b : ℕ). version_of (epoch_of (word last b))) at_anchor ∙ version_is) (ap (λ (b : ℕ). stage_of (epoch_of (word last b))) at_anchor ∙ stage_is)
+      known : IsLasting g last rule.logged.log (anchor_for g url) × (offer_at g last
+          (anchor_for g url) ≡ g.setting.slots + its_stage.stage.line.number)
+      known = laws.lasts (line.worker - 1) its_stage.account its_stage.at its_stage.stage its_stage.has url body version
+          its_stage.request_is its_stage.answer_is
+          (ap (λ (b : ℕ). version_of (epoch_of (word last b))) at_anchor ∙ version_is)
+          (ap (λ (b : ℕ). stage_of (epoch_of (word last b))) at_anchor ∙ stage_is)
 
       offer_is : offer_at g last (anchor_of (key_of url) anchors) ≡ g.setting.slots + its_stage.stage.line.number
       offer_is = subst (λ (b : ℕ). offer_at g last b ≡ g.setting.slots + its_stage.stage.line.number) at_anchor known.1
 
-      pub saved_left : (crashed : List (List ℕ)) → IsCrashImage cells crashed → KeepsAt slot anchors crashed (anchor_of (key_of url) anchors) version url (bytes_of body)
+      pub saved_left : (crashed : List (List ℕ)) → IsCrashImage cells crashed
+          → KeepsAt slot anchors crashed (anchor_of (key_of url) anchors) version url (bytes_of body)
       saved_left crashed crash =
           let e = laws.wins (anchor_of (key_of url) anchors) under stage_is in
           let r = e.is.new (let z = offer_is in omega arith) in
-          let o = laws.offers (line.worker - 1) its_stage.account its_stage.at its_stage.stage its_stage.has url body its_stage.request_is in
+          let o = laws.offers (line.worker - 1) its_stage.account its_stage.at its_stage.stage its_stage.has url body
+          its_stage.request_is in
           record {
             entry = e.entry;
             won = e.left crashed crash (subst (IsLasting g last rule.logged.log) at_anchor known.0);
@@ -307,8 +359,10 @@ module _ {C St : Type 0} (volume_tells told : Bool) (state : C → CellState) (f
             body_is = r.body ∙ ap (λ (n : ℕ). g.offers.body (n - g.setting.slots)) offer_is ∙ o.body_is;
           }
 
-    pub standing : AreInOrder script → Responses volume_tells told state files left name slot anchors workers script tells h.closed → ((c : C) → NowMayStay (state c))
-        → ((all : List CellState) → All NowMayStay all → IsCrashImage all (map (λ (c : CellState). c.now) all)) → LeavesStanding files left name slot anchors script answers (word last)
+    pub standing : AreInOrder script → Responses volume_tells told state files left name slot anchors workers script tells h.closed
+        → ((c : C) → NowMayStay (state c))
+        → ((all : List CellState) → All NowMayStay all → IsCrashImage all (map (λ (c : CellState). c.now) all))
+        → LeavesStanding files left name slot anchors script answers (word last)
     unfolding given_back
     standing order law stays now = record {
       file = given_back volume_tells told state files left name slot anchors workers script tells h.closed law stays now;

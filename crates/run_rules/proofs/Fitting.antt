@@ -1,5 +1,6 @@
 -- A store that was opened over a file fits exactly where the script of its lines fits into the file.
-use Rattle.std.proofs.Common.{Bool, IsTrue, List, ap, arith, inl, inr, length, max, min, suc, sum_by, sym, zero, ⊎_elim, ◌+◌, ◌<◌, ◌∙◌, ◌≡◌, ◌≤◌, ◌⊎◌, ℕ}
+use Rattle.std.proofs.Common.{Bool, IsTrue, List, ap, arith, inl, inr, length, max, min, suc, sum_by, sym, zero, ⊎_elim, ◌+◌, ◌<◌, ◌∙◌, ◌≡◌}
+use Rattle.std.proofs.Common.{◌≤◌, ◌⊎◌, ℕ}
 use Rattle.std.specs.Prelude.{nat_le, nat_lt, ◌↔◌}
 use Rattle.std.specs.List.{range_with_len}
 use Rattle.std.proofs.lemmas.Bool.{and_from, and_parts, le-leb, leb-true, lt-ltb}
@@ -14,7 +15,8 @@ use Rattle.rock_run.specs.Offered.{most_taken, offers_of}
 use Rattle.run_rules.specs.Fitting.{FitsInto, KeepsNone, KeepsSlots, most_held}
 
 -- sums over numbers of anchors, each item of which is at most the other's
-sum_below : (f g : ℕ → ℕ) (from n : ℕ) → ((a : ℕ) → a < from + n → f a ≤ g a) → sum_by f (range_with_len from n) ≤ sum_by g (range_with_len from n)
+sum_below : (f g : ℕ → ℕ) (from n : ℕ) → ((a : ℕ) → a < from + n → f a ≤ g a)
+    → sum_by f (range_with_len from n) ≤ sum_by g (range_with_len from n)
 sum_below f g from zero h = omega arith
 sum_below f g from (suc n) h =
     let first = sum_by-cons f from (range_with_len (from + 1) n) in
@@ -25,10 +27,14 @@ sum_below f g from (suc n) h =
 
 -- where one entry is kept at an anchor, the number of its slots is one
 abbrev pub OneWinner : Type 0
-OneWinner = (slot : ℕ) (images : List (List ℕ)) (anchors anchor : ℕ) (e f : Entry) → IsWinner slot images anchors anchor e → IsWinner slot images anchors anchor f → e ≡ f
+OneWinner = (slot : ℕ) (images : List (List ℕ)) (anchors anchor : ℕ) (e f : Entry) → IsWinner slot images anchors anchor e
+    → IsWinner slot images anchors anchor f → e ≡ f
 
-module _ {C : Type 0} (told : Bool) (state : C → CellState) (g : Ground (List ℕ)) (slot anchors : ℕ) (script : List Line) (cells : List C) (o : OpenedAsKept told state g slot anchors cells)
-    (one : OneWinner) (anchors_are : g.setting.anchors ≡ anchors) (slot_is : g.slot ≡ slot) (slots_are : g.setting.slots ≡ length o.kept.images) (offers_are : g.offers ≡ offers_of script) (some : 0 < length o.kept.images) where
+module _ {C : Type 0} (told : Bool) (state : C → CellState) (g : Ground (List ℕ)) (slot anchors : ℕ) (script : List Line) (cells : List C)
+    (o : OpenedAsKept told state g slot anchors cells)
+    (one : OneWinner) (anchors_are : g.setting.anchors ≡ anchors) (slot_is : g.slot ≡ slot)
+    (slots_are : g.setting.slots ≡ length o.kept.images) (offers_are : g.offers ≡ offers_of script)
+    (some : 0 < length o.kept.images) where
   abbrev images : List (List ℕ)
   images = o.kept.images
 
@@ -43,8 +49,10 @@ module _ {C : Type 0} (told : Bool) (state : C → CellState) (g : Ground (List 
       (o.each a lt)
 
   -- no other number of slots is kept there
-  one_number : (a m n : ℕ) → KeepsSlots slot anchors images a m ⊎ KeepsNone slot anchors images a m → KeepsSlots slot anchors images a n ⊎ KeepsNone slot anchors images a n → m ≡ n
-  one_number a m n (inl h) (inl k) = h.count_is ∙ ap (λ (e : Entry). length e.chain) (one slot images anchors a h.entry k.entry h.winner k.winner) ∙ sym k.count_is
+  one_number : (a m n : ℕ) → KeepsSlots slot anchors images a m ⊎ KeepsNone slot anchors images a m
+      → KeepsSlots slot anchors images a n ⊎ KeepsNone slot anchors images a n → m ≡ n
+  one_number a m n (inl h) (inl k) = h.count_is ∙ ap (λ (e : Entry). length e.chain)
+      (one slot images anchors a h.entry k.entry h.winner k.winner) ∙ sym k.count_is
   one_number a m n (inl h) (inr k) = absurd (k.none h.entry h.winner.complete h.winner.at)
   one_number a m n (inr h) (inl k) = absurd (h.none k.entry k.winner.complete k.winner.at)
   one_number a m n (inr h) (inr k) = h.count_is ∙ sym k.count_is
@@ -56,7 +64,8 @@ module _ {C : Type 0} (told : Bool) (state : C → CellState) (g : Ground (List 
   -- is that of the script and the file
   same_sum : summed ≡ sum_by (most_held slot anchors images script chained) (range_with_len 0 anchors)
   unfolding offers_of
-  same_sum = λ i. sum_by (λ a. max (min ((offers_are i).need (anchors_are i) (slot_is i) a) (slots_are i)) (chained a)) (range_with_len 0 (anchors_are i))
+  same_sum = λ i. sum_by (λ a. max (min ((offers_are i).need (anchors_are i) (slot_is i) a) (slots_are i)) (chained a))
+      (range_with_len 0 (anchors_are i))
 
   into : IsTrue (fits g) → FitsInto slot anchors images script
   unfolding fits
@@ -70,7 +79,8 @@ module _ {C : Type 0} (told : Bool) (state : C → CellState) (g : Ground (List 
   back f =
       let less = sum_below (most_held slot anchors images script chained) (most_held slot anchors images script f.kept) 0 anchors
       (λ a lt. let small : a < anchors = omega (arith, lt) in
-      let same = ap (λ (n : ℕ). max (min (most_taken anchors slot a script) (length images)) n) (one_number a (chained a) (f.kept a) (kept_there a small) (f.file a small)) in omega arith) in
+      let same = ap (λ (n : ℕ). max (min (most_taken anchors slot a script) (length images)) n)
+      (one_number a (chained a) (f.kept a) (kept_there a small) (f.file a small)) in omega arith) in
       let same = same_sum in
       let within = f.enough in
       let at_most = le-leb summed g.setting.slots (omega (arith, less, same, within, slots_are)) in

@@ -26,13 +26,32 @@ printed_line : (served : List Served) (told : ℕ × Answer) → Contains (print
 printed_line [] told c = absurd (contains_none told c)
 printed_line (s ∷ earlier) told c = ⊎_elim
     (λ (h : Contains (printed_by earlier) told).
-    let p = printed_line earlier told h in record { later = s ∷ p.later; line = p.line; earlier = p.earlier; split = ap (λ (z : List Served). s ∷ z) p.split; is = p.is })
+    let p = printed_line earlier told h in record {
+      later = s ∷ p.later;
+      line = p.line;
+      earlier = p.earlier;
+      split =
+          ap (λ (z : List Served). s ∷ z) p.split;
+      is = p.is;
+    })
     (λ (e : (s.asked.number, s.answer) ≡ told). record { later = []; line = s; earlier = earlier; split = refl; is = e })
     (Contains-push_cases (printed_by earlier) (s.asked.number, s.answer) told c)
 
-pub never_full : {X : Type 0} (r : Run X) (script : List Line) (crew : List (Worker X)) → KeepsRules r script crew → IsTrue r.fits → (answers : List (List (ℕ × Answer))) → map (λ w. printed_by w.served) crew ≡ answers
+pub never_full : {X : Type 0} (r : Run X) (script : List Line) (crew : List Worker) → KeepsRules r script crew → IsTrue r.fits
+    → (answers : List (List (ℕ × Answer))) → map (λ w. printed_by w.served) crew ≡ answers
     → (j number : ℕ) (mine : List (ℕ × Answer)) → get_elem? answers j ≡ some mine → Contains mine (number, answer.Full) → ⊥
-never_full {X} r script crew rules fit answers printed j number mine at c =
-    let i = image (λ (w : Worker X). printed_by w.served) crew j mine (ap (λ (z : List (List (ℕ × Answer))). get_elem? z j) printed ∙ at) in
-    let p = printed_line i.item.served (number, answer.Full) (subst (λ (z : List (ℕ × Answer)). Contains z (number, answer.Full)) (sym i.is) c) in
-    rules.answers.full fit (record { j = j; worker = i.item; at = i.at; later = p.later; served = p.line; earlier = p.earlier; split = p.split; so = ap (λ (q : ℕ × Answer). q.1) p.is })
+never_full r script crew rules fit answers printed j number mine at c =
+    let i = image (λ (w : Worker). printed_by w.served) crew j mine (ap (λ (z : List (List (ℕ × Answer))). get_elem? z j) printed ∙ at) in
+    let p = printed_line i.item.served (number, answer.Full) (subst (λ (z : List (ℕ × Answer)). Contains z (number, answer.Full))
+    (sym i.is) c) in
+    rules.answers.full fit (record {
+      j = j;
+      worker = i.item;
+      at = i.at;
+      later = p.later;
+      served = p.line;
+      earlier = p.earlier;
+      split =
+          p.split;
+      so = ap (λ (q : ℕ × Answer). q.1) p.is;
+    })

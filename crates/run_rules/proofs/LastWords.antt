@@ -1,5 +1,6 @@
 -- The words that stood in the last state of a store are explained by the lines of its workers.
-use Rattle.std.proofs.Common.{Bool, Contains, IsTrue, List, [], ap, arith, cond, eq-eqb, false, inl, inr, length, refl, subst, sym, true, ⊎_elim, ◌<◌, ◌∙◌, ◌∷◌, ◌≡◌, ◌≢◌, ◌≤◌, ◌⊎◌, ℕ}
+use Rattle.std.proofs.Common.{Bool, Contains, IsTrue, List, [], ap, arith, cond, eq-eqb, false, inl, inr, length, refl, subst, sym, true}
+use Rattle.std.proofs.Common.{⊎_elim, ◌<◌, ◌∙◌, ◌∷◌, ◌≡◌, ◌≢◌, ◌≤◌, ◌⊎◌, ℕ}
 use Rattle.std.proofs.lemmas.List.{length-map}
 use Rattle.std.specs.Prelude.{get_or}
 use mathlib.Core.Option.{some, some-injective}
@@ -57,26 +58,27 @@ seen_below a e (x ∷ xs) h = ⊎_elim
     (λ (q : Contains xs (Stood a e)). let r = seen_below a e xs q in omega arith)
     (cons_contains x (Stood a e) xs h)
 
-module _ {X : Type 0} (r : Run X) (crew : List (Worker X)) (s : State X) (sound : Sound r.setting s) where
+module _ {X : Type 0} (r : Run X) (crew : List Worker) (view_at : ℕ → View X) (s : State X) (sound : Sound r.setting s) where
   -- the worker with a view of the state
   pub record HasWorker (u : View X) : Type 0 where
     pub j : ℕ
-    pub worker : Worker X
+    pub worker : Worker
     pub at : get_elem? crew j ≡ some worker
-    pub view_is : worker.view ≡ u
+    pub view_is : view_at j ≡ u
 
-  -- The views of the workers stand in the state, and no other view has tabs. Each worker has its account, and nothing is left to do for a word.
+  -- The views of the workers stand in the state, and no other view has tabs. Each worker has its account, and nothing is left to do for a
+  -- word.
   pub record StandIn : Type 0 where
-    pub stands : (j : ℕ) (w : Worker X) → get_elem? crew j ≡ some w → (i : ℕ) × (get_elem? s.views i ≡ some w.view)
+    pub stands : (j : ℕ) (w : Worker) → get_elem? crew j ≡ some w → (i : ℕ) × (get_elem? s.views i ≡ some (view_at j))
     pub worker : (i : ℕ) (u : View X) → get_elem? s.views i ≡ some u → u.tabs ≢ [] → HasWorker u
-    pub accounts : (j : ℕ) (w : Worker X) → get_elem? crew j ≡ some w → Account r w.view w.served true
+    pub accounts : (j : ℕ) (w : Worker) → get_elem? crew j ≡ some w → Account r (view_at j) w.served true
     pub finished : (a : ℕ) → a < r.setting.anchors → IsFinished (word s a)
 
   module _ (c : StandIn) where
     -- a worker at its end, of whose lines R holds
     record AtEnd (R : List Served → Type 0) : Type 0 where
       j : ℕ
-      worker : Worker X
+      worker : Worker
       at : get_elem? crew j ≡ some worker
       so : R worker.served
 
@@ -86,10 +88,11 @@ module _ {X : Type 0} (r : Run X) (crew : List (Worker X)) (s : State X) (sound 
         → ((d : Deed) (served : List Served) → P d → IsDeedOfEnd r.setting d served → R served)
         → IsDone s P → LineIn crew Q ⊎ AtEnd R
     by_cause P Q R of_line of_end done =
-        let w = c.worker done.i done.view done.at (deeds_have_tabs r.setting s done.i done.view done.deed sound.anchors.shaped done.at done.done) in
-        let own : Contains w.worker.view.deeds done.deed = subst (λ (v : View X). Contains v.deeds done.deed) (sym w.view_is) done.done in
+        let w = c.worker done.i done.view done.at (deeds_have_tabs r.setting s done.i done.view done.deed sound.anchors.shaped done.at
+        done.done) in
+        let own : Contains (view_at w.j).deeds done.deed = subst (λ (v : View X). Contains v.deeds done.deed) (sym w.view_is) done.done in
         ⊎_elim
-        (λ (l : LineOf w.worker.served (IsDeedOf r w.worker.view done.deed)). inl record {
+        (λ (l : LineOf w.worker.served (IsDeedOf r (view_at w.j) done.deed)). inl record {
           j = w.j;
           worker = w.worker;
           at = w.at;
@@ -97,9 +100,10 @@ module _ {X : Type 0} (r : Run X) (crew : List (Worker X)) (s : State X) (sound 
           served = l.served;
           earlier = l.earlier;
           split = l.split;
-          so = of_line w.worker.view done.deed l.earlier l.served done.so l.so;
+          so = of_line (view_at w.j) done.deed l.earlier l.served done.so l.so;
         })
-        (λ (l : (true ≡ true) × IsDeedOfEnd r.setting done.deed w.worker.served). inr record { j = w.j; worker = w.worker; at = w.at; so = of_end done.deed w.worker.served done.so l.1 })
+        (λ (l : (true ≡ true) × IsDeedOfEnd r.setting done.deed w.worker.served).
+        inr record { j = w.j; worker = w.worker; at = w.at; so = of_end done.deed w.worker.served done.so l.1 })
         ((c.accounts w.j w.worker w.at).deeds done.deed own).1
 
     by_line : (P : Deed → Type 0) (Q : List Served → Served → Type 0)
@@ -113,24 +117,31 @@ module _ {X : Type 0} (r : Run X) (crew : List (Worker X)) (s : State X) (sound 
 
     begun : (a x : ℕ) → IsDone s (TookVersion a x) → BegunIn r crew a x
     begun a x done = by_line (TookVersion a x) (λ earlier line. Begins r.setting.anchors line a x)
-        (λ v d earlier line p h. subst (λ (y : ℕ). Begins r.setting.anchors line a y) p.2 (subst (λ (b : ℕ). Begins r.setting.anchors line b (version_of d.epoch)) p.1 (h.took p.0 p.3)))
+        (λ v d earlier line p h. subst (λ (y : ℕ). Begins r.setting.anchors line a y) p.2
+        (subst (λ (b : ℕ). Begins r.setting.anchors line b (version_of d.epoch)) p.1 (h.took p.0 p.3)))
         (λ d served p h. let z = (h.changed p.0).0 in let y = p.3 in omega arith)
         done
 
     stored : (a x : ℕ) → IsDone s (ClosedVersion a x) → StoredIn r crew a x
     stored a x done = by_line (ClosedVersion a x) (λ earlier line. Stores r.setting.anchors earlier line a x)
-        (λ v d earlier line p h. subst (λ (y : ℕ). Stores r.setting.anchors earlier line a y) p.2 (subst (λ (b : ℕ). Stores r.setting.anchors earlier line b (version_of d.epoch)) p.1
+        (λ v d earlier line p h. subst (λ (y : ℕ). Stores r.setting.anchors earlier line a y) p.2
+        (subst (λ (b : ℕ). Stores r.setting.anchors earlier line b (version_of d.epoch)) p.1
         (record { writes = (h.grew p.0 (inr p.3)).writes; printed = (h.closed p.0 p.3).stored p.4 })))
-        (λ d served p h. ⊎_elim (λ (z : stage_of d.epoch ≡ 4). let y = p.3 in omega arith) (λ (z : stage_of d.epoch ≡ 6). let y = p.3 in omega arith) (h.raised p.0))
+        (λ d served p h. ⊎_elim (λ (z : stage_of d.epoch ≡ 4). let y = p.3 in omega arith)
+        (λ (z : stage_of d.epoch ≡ 6). let y = p.3 in omega arith) (h.raised p.0))
         done
 
     halted : (a x : ℕ) → IsDone s (HaltedVersion a x) → HaltedIn r crew a x
     halted a x done = ⊎_elim
         (λ (l : LineIn crew (λ earlier line. Halts r.setting.anchors earlier line a x)). inl l)
-        (λ (l : AtEnd (λ served. IsWriting r.setting.anchors served a x)). inr (record { j = l.j; worker = l.worker; at = l.at; writing = l.so }))
-        (by_cause (HaltedVersion a x) (λ earlier line. Halts r.setting.anchors earlier line a x) (λ served. IsWriting r.setting.anchors served a x)
-        (λ v d earlier line p h. subst (λ (y : ℕ). Halts r.setting.anchors earlier line a y) p.2 (subst (λ (b : ℕ). Halts r.setting.anchors earlier line b (version_of d.epoch)) p.1 (h.halted p.0 p.3)))
-        (λ d served p h. subst (λ (y : ℕ). IsWriting r.setting.anchors served a y) p.2 (subst (λ (b : ℕ). IsWriting r.setting.anchors served b (version_of d.epoch)) p.1 (h.halted p.0 p.3)))
+        (λ (l : AtEnd (λ served. IsWriting r.setting.anchors served a x)).
+        inr (record { j = l.j; worker = l.worker; at = l.at; writing = l.so }))
+        (by_cause (HaltedVersion a x) (λ earlier line. Halts r.setting.anchors earlier line a x)
+        (λ served. IsWriting r.setting.anchors served a x)
+        (λ v d earlier line p h. subst (λ (y : ℕ). Halts r.setting.anchors earlier line a y) p.2
+        (subst (λ (b : ℕ). Halts r.setting.anchors earlier line b (version_of d.epoch)) p.1 (h.halted p.0 p.3)))
+        (λ d served p h. subst (λ (y : ℕ). IsWriting r.setting.anchors served a y) p.2
+        (subst (λ (b : ℕ). IsWriting r.setting.anchors served b (version_of d.epoch)) p.1 (h.halted p.0 p.3)))
         done)
 
     purged : (a x : ℕ) → IsDone s (DoomedVersion a x) → PurgedIn r crew a x
@@ -148,19 +159,26 @@ module _ {X : Type 0} (r : Run X) (crew : List (Worker X)) (s : State X) (sound 
       stands_there : IsEpochAt r.setting s a (epoch_of (word s a))
       stands_there = inl (lt, refl)
 
-      old_one : version_of (epoch_of (word s a)) ≤ opening_counter r.setting → (version_of (epoch_of (word s a)) ≡ version_of (opening_epoch r.setting a))
-          × ((stage_of (epoch_of (word s a)) ≡ stage_of (opening_epoch r.setting a)) ⊎ ((5 ≤ stage_of (epoch_of (word s a))) × HadEntry r a))
+      old_one : version_of (epoch_of (word s a)) ≤ opening_counter r.setting
+          → (version_of (epoch_of (word s a)) ≡ version_of (opening_epoch r.setting a))
+          × ((stage_of (epoch_of (word s a)) ≡ stage_of (opening_epoch r.setting a))
+          ⊎ ((5 ≤ stage_of (epoch_of (word s a))) × HadEntry r a))
       old_one low = let o = known_old r.setting s sound a (epoch_of (word s a)) stands_there low in (o.version, o.stage)
 
       -- what was evicted from an idle word was whole
-      whole : 6 ≡ stage_of (epoch_of (word s a)) → IsDone s (EvictedVersion a (version_of (epoch_of (word s a)))) → WasWhole r crew a (version_of (epoch_of (word s a)))
+      whole : 6 ≡ stage_of (epoch_of (word s a)) → IsDone s (EvictedVersion a (version_of (epoch_of (word s a))))
+          → WasWhole r crew a (version_of (epoch_of (word s a)))
       whole six h = ⊎_elim
           (λ (low : version_of (epoch_of (word s a)) ≤ opening_counter r.setting). let o = old_one low in inr (had o.1, o.0))
-          (λ (high : opening_counter r.setting < version_of (epoch_of (word s a))). inl (stored a (version_of (epoch_of (word s a))) (known_evicted r.setting s sound a (version_of (epoch_of (word s a))) high h)))
+          (λ (high : opening_counter r.setting < version_of (epoch_of (word s a))).
+          inl (stored a (version_of (epoch_of (word s a))) (known_evicted r.setting s sound a
+          (version_of (epoch_of (word s a))) high h)))
           (not_above (version_of (epoch_of (word s a))) (opening_counter r.setting))
         where
-          had : (stage_of (epoch_of (word s a)) ≡ stage_of (opening_epoch r.setting a)) ⊎ ((5 ≤ stage_of (epoch_of (word s a))) × HadEntry r a) → HadEntry r a
-          had (inl q) = ⊎_elim (λ (z : stage_of (opening_epoch r.setting a) ≡ 0). absurd (omega arith)) (λ (z : stage_of (opening_epoch r.setting a) ≡ 3). z) (sound.anchors.setting.stage a lt)
+          had : (stage_of (epoch_of (word s a)) ≡ stage_of (opening_epoch r.setting a))
+              ⊎ ((5 ≤ stage_of (epoch_of (word s a))) × HadEntry r a) → HadEntry r a
+          had (inl q) = ⊎_elim (λ (z : stage_of (opening_epoch r.setting a) ≡ 0). absurd (omega arith))
+              (λ (z : stage_of (opening_epoch r.setting a) ≡ 3). z) (sound.anchors.setting.stage a lt)
           had (inr q) = q.1
 
       -- a line evicted it, in a run that does not fit
@@ -174,17 +192,22 @@ module _ {X : Type 0} (r : Run X) (crew : List (Worker X)) (s : State X) (sound 
           → IsDone s (HaltedVersion a (version_of (epoch_of (word s a)))) ⊎ IsDone s (EvictedVersion a (version_of (epoch_of (word s a))))
       left_by six undoomed = sound.anchors.deeds.undoomed a (epoch_of (word s a)) stands_there undoomed (omega arith)
 
-      gone : stage_of (epoch_of (word s a)) ≡ 6 → doom_of (epoch_of (word s a)) ≡ 0 → GivenBackIn r crew a (version_of (epoch_of (word s a)))
+      gone : stage_of (epoch_of (word s a)) ≡ 6 → doom_of (epoch_of (word s a)) ≡ 0
+          → GivenBackIn r crew a (version_of (epoch_of (word s a)))
       gone six undoomed = ⊎_elim
           (λ (h : IsDone s (HaltedVersion a (version_of (epoch_of (word s a))))). inl (halted a (version_of (epoch_of (word s a))) h))
-          (λ (h : IsDone s (EvictedVersion a (version_of (epoch_of (word s a))))). inr (gave_way r crew a (version_of (epoch_of (word s a))) (evicting h) (whole (sym six) h)))
+          (λ (h : IsDone s (EvictedVersion a (version_of (epoch_of (word s a))))).
+          inr (gave_way r crew a (version_of (epoch_of (word s a))) (evicting h) (whole (sym six) h)))
           (left_by six undoomed)
 
       -- in a run that fits it is none of the opening
-      gone_new : IsTrue r.fits → stage_of (epoch_of (word s a)) ≡ 6 → doom_of (epoch_of (word s a)) ≡ 0 → opening_counter r.setting < version_of (epoch_of (word s a))
+      gone_new : IsTrue r.fits → stage_of (epoch_of (word s a)) ≡ 6 → doom_of (epoch_of (word s a)) ≡ 0
+          → opening_counter r.setting < version_of (epoch_of (word s a))
       gone_new fit six undoomed = ⊎_elim
-          (λ (h : IsDone s (HaltedVersion a (version_of (epoch_of (word s a))))). halted_new r.setting s sound a (version_of (epoch_of (word s a))) lt h)
-          (λ (h : IsDone s (EvictedVersion a (version_of (epoch_of (word s a))))). absurd (let f : true ≡ false = sym fit ∙ (evicting h).so.wants in cc))
+          (λ (h : IsDone s (HaltedVersion a (version_of (epoch_of (word s a))))).
+          halted_new r.setting s sound a (version_of (epoch_of (word s a))) lt h)
+          (λ (h : IsDone s (EvictedVersion a (version_of (epoch_of (word s a))))).
+          absurd (let f : true ≡ false = sym fit ∙ (evicting h).so.wants in cc))
           (left_by six undoomed)
 
     pub last_words : AreLastWords r crew (word s)
@@ -193,24 +216,28 @@ module _ {X : Type 0} (r : Run X) (crew : List (Worker X)) (s : State X) (sound 
       latest = λ a f p.
           let w = c.stands p.j p.worker p.at in
           let seen = ((c.accounts p.j p.worker p.at).lines p.later p.earlier p.served p.split).shown a f p.so in
-          let lt = sound.anchors.seen.inside w.0 p.worker.view w.1 (Stood a f) seen in
-          let below = seen_below a f p.worker.view.seen seen in
-          let most = sound.anchors.seen.epochs w.0 p.worker.view w.1 a lt in
+          let lt = sound.anchors.seen.inside w.0 (view_at p.j) w.1 (Stood a f) seen in
+          let below = seen_below a f (view_at p.j).seen seen in
+          let most = sound.anchors.seen.epochs w.0 (view_at p.j) w.1 a lt in
           omega arith;
       leads = λ a f p same.
           let w = c.stands p.j p.worker p.at in
           let seen = ((c.accounts p.j p.worker p.at).lines p.later p.earlier p.served p.split).shown a f p.so in
-          sound.sights.stages w.0 p.worker.view w.1 a f (sound.anchors.seen.inside w.0 p.worker.view w.1 (Stood a f) seen) seen same;
+          sound.sights.stages w.0 (view_at p.j) w.1 a f (sound.anchors.seen.inside w.0 (view_at p.j) w.1 (Stood a f) seen) seen same;
       old = λ a lt low. old_one a lt low;
-      new = λ a lt high. begun a (version_of (epoch_of (word s a))) (known_taken r.setting s sound a (epoch_of (word s a)) (stands_there a lt) high);
-      stored = λ a lt high three. stored a (version_of (epoch_of (word s a))) (known_closed r.setting s sound a (epoch_of (word s a)) (stands_there a lt) high three ((c.finished a lt).closed three));
-      purged = λ a lt doom. purged a (version_of (epoch_of (word s a))) (sound.anchors.deeds.doomed a (epoch_of (word s a)) (stands_there a lt) doom);
+      new = λ a lt high. begun a (version_of (epoch_of (word s a)))
+          (known_taken r.setting s sound a (epoch_of (word s a)) (stands_there a lt) high);
+      stored = λ a lt high three. stored a (version_of (epoch_of (word s a)))
+          (known_closed r.setting s sound a (epoch_of (word s a)) (stands_there a lt) high three ((c.finished a lt).closed three));
+      purged = λ a lt doom. purged a (version_of (epoch_of (word s a)))
+          (sound.anchors.deeds.doomed a (epoch_of (word s a)) (stands_there a lt) doom);
       given_back = λ a lt six undoomed. gone a lt six undoomed;
       given_back_new = λ fit a lt six undoomed. gone_new a lt fit six undoomed;
     }
 
 -- The crew that explains a run stands in the last state of its store.
-module _ {C St : Type 0} (volume_tells told : Bool) (state : C → CellState) (faults : St → ℕ) (files left : Files) (name : List ℕ) (slot anchors workers : ℕ) (script : List Line) (answers : List (List (ℕ × Answer)))
+module _ {C St : Type 0} (volume_tells told : Bool) (state : C → CellState) (faults : St → ℕ) (files left : Files) (name : List ℕ)
+    (slot anchors workers : ℕ) (script : List Line) (answers : List (List (ℕ × Answer)))
     (before after : Counts) (h : HasRun volume_tells told state files left name slot anchors workers script faults answers before after)
     (laws : Laws volume_tells told state faults files left name slot anchors workers script answers before after h) where
   abbrev g : Ground (List ℕ)
@@ -225,7 +252,7 @@ module _ {C St : Type 0} (volume_tells told : Bool) (state : C → CellState) (f
   abbrev closing : HasClosing {C = C} {O = List Line} {St = St} run script accounts
   closing = laws.closes laws.past.past laws.past.told
 
-  abbrev crew : List (Worker (List ℕ))
+  abbrev crew : List Worker
   crew = crew_of closing.courses
 
   abbrev views : List (View (List ℕ))
@@ -243,12 +270,12 @@ module _ {C St : Type 0} (volume_tells told : Bool) (state : C → CellState) (f
       ∙ sym (length-map h.closed.left (λ (p : Pass C). view p))
 
   -- a worker of the crew, with its account and the view with which its pass was left
-  record HasView (j : ℕ) (w : Worker (List ℕ)) : Type 0 where
+  record HasView (j : ℕ) (w : Worker) : Type 0 where
     account : PlayedBy (OnShelf C (List Line) St)
     at : get_elem? views j ≡ some (view account.end.pass)
-    view_is : w.view ≡ view account.end.pass
+    view_is : closing.closed.view_at j ≡ view account.end.pass
 
-  has_view : (j : ℕ) (w : Worker (List ℕ)) → get_elem? crew j ≡ some w → HasView j w
+  has_view : (j : ℕ) (w : Worker) → get_elem? crew j ≡ some w → HasView j w
   has_view j w e =
       let i = image worker_of closing.courses j w e in
       let a = beside accounts closing.courses j i.item (sym closing.count) i.at in
@@ -256,24 +283,28 @@ module _ {C St : Type 0} (volume_tells told : Bool) (state : C → CellState) (f
       record {
         account = a.item;
         at = view_there volume_tells told state faults files left name slot anchors workers script answers before after h j a.item a.at;
-        view_is = sym (ap Worker.view i.is) ∙ course.ends;
+        view_is = closing.views j i.item i.at ∙ course.ends;
       }
 
   -- the worker at a place of the row of passes
-  at_pass : (j i : ℕ) (u : View (List ℕ)) → j < length views → h.closed.closed.gathered.index j ≡ i → get_elem? last.views i ≡ some u → HasWorker run crew last h.closed.closed.gathered.rule.sound u
+  at_pass : (j i : ℕ) (u : View (List ℕ)) → j < length views → h.closed.closed.gathered.index j ≡ i → get_elem? last.views i ≡ some u
+      → HasWorker run crew closing.closed.view_at last h.closed.closed.gathered.rule.sound u
   at_pass j i u lt same at =
       let a = beside accounts views j (get_or views j u) as_many_views (at_index views j (get_or views j u) u lt refl) in
       let p = beside closing.courses accounts j a.item closing.count a.at in
       let course : IsFor j a.item p.item = closing.each j a.item p.item a.at p.at in
-      let there = h.closed.closed.gathered.at j (view a.item.end.pass) (view_there volume_tells told state faults files left name slot anchors workers script answers before after h j a.item a.at) in
+      let there = h.closed.closed.gathered.at j (view a.item.end.pass)
+      (view_there volume_tells told state faults files left name slot anchors workers script answers before after h j a.item a.at) in
       record {
         j = j;
         worker = worker_of p.item;
         at = map_at worker_of closing.courses j p.item p.at;
-        view_is = course.ends ∙ some-injective (view a.item.end.pass) u (sym there ∙ ap (get_elem? last.views) same ∙ at);
+        view_is = closing.views j p.item p.at ∙ course.ends ∙ some-injective (view a.item.end.pass) u
+            (sym there ∙ ap (get_elem? last.views) same ∙ at);
       }
 
-  stand_in : ((a : ℕ) → a < g.setting.anchors → IsFinished (word last a)) → StandIn run crew last h.closed.closed.gathered.rule.sound
+  stand_in : ((a : ℕ) → a < g.setting.anchors → IsFinished (word last a))
+      → StandIn run crew closing.closed.view_at last h.closed.closed.gathered.rule.sound
   stand_in finished = record {
     stands = λ j w e. let v = has_view j w e in (
       h.closed.closed.gathered.index j,
@@ -292,4 +323,4 @@ module _ {C St : Type 0} (volume_tells told : Bool) (state : C → CellState) (f
       → AreLastWords (explained volume_tells told state faults files left name slot anchors workers script answers before after h laws).run
       (explained volume_tells told state faults files left name slot anchors workers script answers before after h laws).crew (word last)
   unfolding explained
-  words_are finished = last_words run crew last h.closed.closed.gathered.rule.sound (stand_in finished)
+  words_are finished = last_words run crew closing.closed.view_at last h.closed.closed.gathered.rule.sound (stand_in finished)

@@ -1,5 +1,6 @@
 -- The cells of a store that was closed are back in the file, and what a crash leaves of them.
-use Rattle.std.proofs.Common.{◌≡◌, ◌⊎◌, inl, inr, ⊎_elim, ℕ, List, [], ◌∷◌, All, Bool, IsTrue, Some, cond, false, length, map, refl, suc, sym, ap, arith, subst, true, ◌+◌, ◌∙◌}
+use Rattle.std.proofs.Common.{◌≡◌, ◌⊎◌, inl, inr, ⊎_elim, ℕ, List, [], ◌∷◌, All, Bool, IsTrue, Some, cond, false, length, map, refl, suc}
+use Rattle.std.proofs.Common.{sym, ap, arith, subst, true, ◌+◌, ◌∙◌}
 use Rattle.std.proofs.lemmas.Cmp.{nat_list_cmp_total}
 use Rattle.std.proofs.lemmas.List.{length-map}
 use Rattle.std.proofs.lemmas.List.Elements.{All-map}
@@ -46,19 +47,24 @@ inserted_twice files name f g =
     ∙ sym (get-insert nat_list_cmp_total files name f q))))
 
 -- cells in a row have the shapes of a file's slots
-shapes_of : {C : Type 0} (cell : C → CellState) (slot from : ℕ) (cells : List C) → ((j : ℕ) (c : C) → get_elem? cells j ≡ some c → shape (cell c) ≡ (from + j, slot)) → map shape (map cell cells) ≡ shapes_from from (length cells) slot
+shapes_of : {C : Type 0} (cell : C → CellState) (slot from : ℕ) (cells : List C)
+    → ((j : ℕ) (c : C) → get_elem? cells j ≡ some c → shape (cell c) ≡ (from + j, slot))
+    → map shape (map cell cells) ≡ shapes_from from (length cells) slot
 shapes_of cell slot from [] row = refl
 shapes_of cell slot from (x ∷ xs) row =
     let first : from + 0 ≡ from = omega arith in
     let here : shape (cell x) ≡ (from, slot) = row 0 x refl ∙ ap (λ (n : ℕ). (n, slot)) first in
-    let others = shapes_of cell slot (from + 1) xs (λ j c e. row (suc j) c e ∙ (let more : from + suc j ≡ from + 1 + j = omega arith in ap (λ (n : ℕ). (n, slot)) more)) in
+    let others = shapes_of cell slot (from + 1) xs (λ j c e. row (suc j) c e
+    ∙ (let more : from + suc j ≡ from + 1 + j = omega arith in ap (λ (n : ℕ). (n, slot)) more)) in
     λ i. here i ∷ others i
 
 -- the law on what a crash leaves of the cells of a store that was closed
-module _ {C : Type 0} (volume_tells tells : Bool) (cell : C → CellState) (files left : Files) (name : List ℕ) (slot anchors workers : ℕ) (script : List Line)
+module _ {C : Type 0} (volume_tells tells : Bool) (cell : C → CellState) (files left : Files) (name : List ℕ) (slot anchors workers : ℕ)
+    (script : List Line)
     (told : IsTrue volume_tells) (h : HasClosed volume_tells tells cell files left name slot anchors workers script) where
   abbrev pub Responses : Type 0
-  Responses = (images : List (List ℕ)) (e : Entry) → IsCrashImage (map cell h.cells) images → IsComplete slot images e → IsComplete slot (bytes_now cell h.opened.cells) e ⊎ IsOfOrigin (offers_of script) e
+  Responses = (images : List (List ℕ)) (e : Entry) → IsCrashImage (map cell h.cells) images → IsComplete slot images e
+      → IsComplete slot (bytes_now cell h.opened.cells) e ⊎ IsOfOrigin (offers_of script) e
 
   abbrev opened : IsOpened files h.middle name slot h.opened.bytes (cell h.header) (map cell h.opened.cells)
   opened = h.opened.out told
@@ -67,28 +73,35 @@ module _ {C : Type 0} (volume_tells tells : Bool) (cell : C → CellState) (file
   pub images_are : bytes_now cell h.opened.cells ≡ images_of slot opened.was
   images_are = sym (map_twice cell (λ (c : CellState). c.now) h.opened.cells) ∙ ap (map (λ (c : CellState). c.now)) opened.cells_are
 
-  pub response : (e : Entry) (images : List (List ℕ)) → IsComplete slot images e → IsOfOrigin (offers_of script) e → IsResponse slot (images_of slot opened.was) script e.url e.body
-  response e images c q = inr (subst (λ (z : List ℕ). IsOffered script z e.body) (sym q.url) (subst (λ (z : List ℕ). IsOffered script ((offers_of script).url q.offer) z) (sym q.body)
+  pub response : (e : Entry) (images : List (List ℕ)) → IsComplete slot images e → IsOfOrigin (offers_of script) e
+      → IsResponse slot (images_of slot opened.was) script e.url e.body
+  response e images c q = inr (subst (λ (z : List ℕ). IsOffered script z e.body) (sym q.url)
+      (subst (λ (z : List ℕ). IsOffered script ((offers_of script).url q.offer) z) (sym q.body)
       (offer_of_line script q.offer (λ none. c.url.some (q.url ∙ none)))))
 
   -- there are as many cells as there were
   many : length (map cell h.cells) ≡ slots_of (length (bytes_of opened.was)) slot
   many = length-map h.cells cell ∙ h.closed.many ∙ h.opened.store.slots_are ∙ sym (length-map h.opened.cells cell)
-      ∙ count_of (map cell h.opened.cells) (slots_of h.opened.bytes slot) slot h.opened.shape.cell_shapes ∙ ap (λ (n : ℕ). slots_of n slot) opened.size
+      ∙ count_of (map cell h.opened.cells) (slots_of h.opened.bytes slot) slot h.opened.shape.cell_shapes
+      ∙ ap (λ (n : ℕ). slots_of n slot) opened.size
 
   -- of the same shapes
   pub shapes : map shape (map cell h.cells) ≡ shapes_from 0 (slots_of (length (bytes_of opened.was)) slot) slot
-  shapes = shapes_of cell slot 0 h.cells (λ j c e. subst (λ (n : ℕ). IsRow cell n h.cells) h.opened.store.slot_is h.closed.row j c e ∙ (let more : j ≡ 0 + j = omega arith in ap (λ (n : ℕ). (n, slot)) more))
+  shapes = shapes_of cell slot 0 h.cells (λ j c e. subst (λ (n : ℕ). IsRow cell n h.cells) h.opened.store.slot_is h.closed.row j c e
+      ∙ (let more : j ≡ 0 + j = omega arith in ap (λ (n : ℕ). (n, slot)) more))
       ∙ ap (λ (n : ℕ). shapes_from 0 n slot) (sym (length-map h.cells cell) ∙ many)
 
   pub back : left ≡ insert files name (Home (header_cut (bytes_of opened.was)) (map cell h.cells) (rest_cut slot (bytes_of opened.was)))
   back =
       h.back told
       ∙ ap (λ (z : Files). insert z name (Home (cell h.header) (map cell h.cells) (rest_cut slot (bytes_of opened.was)))) opened.out
-      ∙ inserted_twice files name (Home (cell h.header) (map cell h.cells) (rest_cut slot (bytes_of opened.was))) (Away (slots_of h.opened.bytes slot) slot (rest_cut slot (bytes_of opened.was)))
+      ∙ inserted_twice files name (Home (cell h.header) (map cell h.cells) (rest_cut slot (bytes_of opened.was)))
+      (Away (slots_of h.opened.bytes slot) slot (rest_cut slot (bytes_of opened.was)))
       ∙ ap (λ (z : CellState). insert files name (Home z (map cell h.cells) (rest_cut slot (bytes_of opened.was)))) opened.header_is
 
-  unfoldable pub given_back : Responses → ((c : C) → NowMayStay (cell c)) → ((cells : List CellState) → All NowMayStay cells → IsCrashImage cells (map (λ (c : CellState). c.now) cells)) → IsGivenBack files left name slot script
+  unfoldable pub given_back : Responses → ((c : C) → NowMayStay (cell c))
+      → ((cells : List CellState) → All NowMayStay cells → IsCrashImage cells (map (λ (c : CellState). c.now) cells))
+      → IsGivenBack files left name slot script
   given_back law stays now = record {
     was = opened.was;
     there = opened.found;
@@ -97,7 +110,14 @@ module _ {C : Type 0} (volume_tells tells : Bool) (cell : C → CellState) (file
     back = back;
     now = now (map cell h.cells) (All-map NowMayStay cell h.cells (λ k d lt. stays (slice_index_or h.cells k d)));
     responses = λ images p e c. ⊎_elim
-        (λ (was : IsComplete slot (bytes_now cell h.opened.cells) e). inl record { entry = e; complete = subst (λ (z : List (List ℕ)). IsComplete slot z e) images_are was; url_is = refl; body_is = refl })
+        (λ (was : IsComplete slot (bytes_now cell h.opened.cells) e).
+        inl record {
+          entry = e;
+          complete = subst (λ (z : List (List ℕ)). IsComplete slot z e) images_are was;
+          url_is = refl;
+          body_is =
+              refl;
+        })
         (λ (new : IsOfOrigin (offers_of script) e). response e images c new)
         (law images e p c);
   }

@@ -1,5 +1,6 @@
 -- Lists, and numbers beside one another.
-use Rattle.std.proofs.Common.{Bool, Contains, List, [], ap, arith, cond, inl, inr, length, map, refl, suc, sym, zero, ⊎_elim, ◌+◌, ◌<◌, ◌∙◌, ◌∷◌, ◌≡◌, ◌≤◌, ◌⊎◌, ℕ}
+use Rattle.std.proofs.Common.{Bool, Contains, List, [], ap, arith, cond, inl, inr, length, map, refl, suc, sym, zero, ⊎_elim, ◌+◌, ◌<◌, ◌∙◌}
+use Rattle.std.proofs.Common.{◌∷◌, ◌≡◌, ◌≤◌, ◌⊎◌, ℕ}
 use Rattle.std.proofs.lemmas.List.Elements.{Contains-append_right}
 use Rattle.std.proofs.lemmas.List.Sums.{sum_by-cons}
 use mathlib.Core.Option.{some, some-injective, some-ne-none}

@@ -39,7 +39,8 @@ use Rattle.run_rules.proofs.Lists.{both}
 use Rattle.run_rules.proofs.Opened.{as_many, has_played}
 
 -- lines with their answers, each with its number
-numbered_stages : {H : Type 0} (stages : List (Stage H)) → map (λ s. (s.line.number, s.answer)) stages ≡ numbered (map (λ s. s.line) stages) (map (λ s. s.answer) stages)
+numbered_stages : {H : Type 0} (stages : List (Stage H)) → map (λ s. (s.line.number, s.answer)) stages ≡ numbered (map (λ s. s.line) stages)
+    (map (λ s. s.answer) stages)
 numbered_stages [] = refl
 numbered_stages (s ∷ stages) = ap (λ xs. (s.line.number, s.answer) ∷ xs) (numbered_stages stages)
 
@@ -53,8 +54,10 @@ one_of [] e = absurd (omega arith)
 one_of (x ∷ []) e = record { only = x; is = refl }
 one_of (x ∷ y ∷ xs) e = absurd (omega arith)
 
-module _ {C St : Type 0} (volume_tells told : Bool) (state : C → CellState) (faults : St → ℕ) (files left : Files) (name : List ℕ) (slot anchors workers : ℕ) (script : List Line) (answers : List (List (ℕ × Answer)))
-    (before after : Counts) (h : HasRun volume_tells told state files left name slot anchors workers script faults answers before after) (alone : workers ≡ 1) (tells : IsTrue volume_tells) where
+module _ {C St : Type 0} (volume_tells told : Bool) (state : C → CellState) (faults : St → ℕ) (files left : Files) (name : List ℕ)
+    (slot anchors workers : ℕ) (script : List Line) (answers : List (List (ℕ × Answer)))
+    (before after : Counts) (h : HasRun volume_tells told state files left name slot anchors workers script faults answers before after)
+    (alone : workers ≡ 1) (tells : IsTrue volume_tells) where
   abbrev accounts : List (Account (OnShelf C (List Line) St))
   accounts = h.served.played.accounts
 
@@ -66,10 +69,13 @@ module _ {C St : Type 0} (volume_tells told : Bool) (state : C → CellState) (f
 
   -- its station was ended with no fault
   pub station_none : NoneFailedServing before after → faults one.only.end.station ≡ 0
-  station_none none = All-head (λ (n : ℕ). n ≡ 0) (faults one.only.end.station) [] (subst (All (λ (n : ℕ). n ≡ 0)) stations_are (none (map faults h.stations) h.ended))
+  station_none none = All-head (λ (n : ℕ). n ≡ 0) (faults one.only.end.station) []
+      (subst (All (λ (n : ℕ). n ≡ 0)) stations_are (none (map faults h.stations) h.ended))
     where
       stations_are : map faults h.stations ≡ faults one.only.end.station ∷ []
-      stations_are = ap (map faults) (sym h.served.played.stations_left_are) ∙ ap (λ (xs : List (Account (OnShelf C (List Line) St))). map faults (map (λ (a : Account (OnShelf C (List Line) St)). a.end.station) xs)) one.is
+      stations_are = ap (map faults) (sym h.served.played.stations_left_are)
+          ∙ ap (λ (xs : List (Account (OnShelf C (List Line) St))). map faults
+          (map (λ (a : Account (OnShelf C (List Line) St)). a.end.station) xs)) one.is
 
   pub has_alone : HasPlayed told state offers_of faults h.closed.store script accounts h.closed.cells
   has_alone = has_played volume_tells told state faults files left name slot anchors workers script answers before after h
@@ -80,8 +86,11 @@ module _ {C St : Type 0} (volume_tells told : Bool) (state : C → CellState) (f
   -- what a plain run of the worker says of the file
   pub plainly : (plain : Plain) → IsOpened slot images anchors plain
       → IsPlainRun told state offers_of h.closed.store slot anchors (length h.closed.opened.cells) script plain one.only h.closed.cells
-      → KeepsWhole slot anchors (map (λ (c : C). (state c).now) h.closed.cells) (left_by (setting_over slot anchors (length h.closed.opened.cells)) script 1 plain) (λ e. Unit {0})
-      → ((crashed : List (List ℕ)) → IsCrashImage (map state h.closed.cells) crashed → KeepsWhole slot anchors crashed (left_by (setting_over slot anchors (length h.closed.opened.cells)) script 1 plain) (WasKept (length h.closed.opened.cells) script))
+      → KeepsWhole slot anchors (map (λ (c : C). (state c).now) h.closed.cells)
+      (left_by (setting_over slot anchors (length h.closed.opened.cells)) script 1 plain) (λ e. Unit {0})
+      → ((crashed : List (List ℕ)) → IsCrashImage (map state h.closed.cells) crashed
+      → KeepsWhole slot anchors crashed (left_by (setting_over slot anchors (length h.closed.opened.cells)) script 1 plain)
+      (WasKept (length h.closed.opened.cells) script))
       → IsAnsweredPlainly files left name slot anchors script answers
   plainly plain opened run kept lasting = let out = h.closed.opened.out tells in record {
     images = images;
@@ -92,7 +101,8 @@ module _ {C St : Type 0} (volume_tells told : Bool) (state : C → CellState) (f
     };
     plain = plain;
     opened = opened;
-    answered = sym h.served.played.answers_are ∙ ap (map account_answers) one.is ∙ ap (λ xs. xs ∷ []) (numbered_stages one.only.stages ∙ (λ i. numbered (run.lines i) (run.answers i))
+    answered = sym h.served.played.answers_are ∙ ap (map account_answers) one.is
+        ∙ ap (λ xs. xs ∷ []) (numbered_stages one.only.stages ∙ (λ i. numbered (run.lines i) (run.answers i))
         ∙ ap (λ (n : ℕ). numbered (lines_for 1 script) (answers_of (setting_over slot anchors n) script 1 plain)) many);
     back = map (λ (c : C). (state c).now) h.closed.cells;
     given_back = record {
@@ -102,9 +112,12 @@ module _ {C St : Type 0} (volume_tells told : Bool) (state : C → CellState) (f
       there = ap (λ m. get m name) (h.closed.back tells) ∙ get_inserted h.closed.middle name _;
       images_are = sym (both state (λ (c : CellState). c.now) h.closed.cells);
     };
-    entries = subst (λ (n : ℕ). HoldsWhole slot anchors (map (λ (c : C). (state c).now) h.closed.cells) (left_by (setting_over slot anchors n) script 1 plain)) many run.entries;
-    kept = subst (λ (n : ℕ). KeepsWhole slot anchors (map (λ (c : C). (state c).now) h.closed.cells) (left_by (setting_over slot anchors n) script 1 plain) (λ e. Unit {0})) many kept;
-    lasting = λ crashed crash. subst (λ (n : ℕ). KeepsWhole slot anchors crashed (left_by (setting_over slot anchors n) script 1 plain) (WasKept n script)) many (lasting crashed crash);
+    entries = subst (λ (n : ℕ). HoldsWhole slot anchors (map (λ (c : C). (state c).now) h.closed.cells)
+        (left_by (setting_over slot anchors n) script 1 plain)) many run.entries;
+    kept = subst (λ (n : ℕ). KeepsWhole slot anchors (map (λ (c : C). (state c).now) h.closed.cells)
+        (left_by (setting_over slot anchors n) script 1 plain) (λ e. Unit {0})) many kept;
+    lasting = λ crashed crash. subst (λ (n : ℕ). KeepsWhole slot anchors crashed (left_by (setting_over slot anchors n) script 1 plain)
+        (WasKept n script)) many (lasting crashed crash);
   }
     where
       many : length h.closed.opened.cells ≡ length images
@@ -112,25 +125,39 @@ module _ {C St : Type 0} (volume_tells told : Bool) (state : C → CellState) (f
 
   -- the store was opened with one pass
   pub opened_alone : IsStoreOver told state offers_of slot anchors 1 script h.closed.opened.cells h.closed.store h.closed.passes
-  opened_alone = subst (λ (n : ℕ). IsStoreOver told state offers_of slot anchors n script h.closed.opened.cells h.closed.store h.closed.passes) alone h.closed.opened.store
+  opened_alone = subst (λ (n : ℕ). IsStoreOver told state offers_of slot anchors n script h.closed.opened.cells h.closed.store
+      h.closed.passes) alone h.closed.opened.store
 
   -- with whose view it was closed
   pub first_view : get_elem? (views_of h.closed.left) 0 ≡ some (view one.only.end.pass)
-  first_view = ap (λ (xs : List (Pass C)). get_elem? (views_of xs) 0) (sym h.served.played.passes_left_are ∙ ap (map (λ (a : Account (OnShelf C (List Line) St)). a.end.pass)) one.is)
+  first_view = ap (λ (xs : List (Pass C)). get_elem? (views_of xs) 0)
+      (sym h.served.played.passes_left_are ∙ ap (map (λ (a : Account (OnShelf C (List Line) St)). a.end.pass)) one.is)
 
   -- words by the store's setting are words by that of the file
   pub words_over : (plain : Plain) (opened : IsOpened slot images anchors plain)
-      → (run : IsPlainRun told state offers_of h.closed.store slot anchors (length h.closed.opened.cells) script plain one.only h.closed.cells)
-      → (kept : KeepsWhole slot anchors (map (λ (c : C). (state c).now) h.closed.cells) (left_by (setting_over slot anchors (length h.closed.opened.cells)) script 1 plain) (λ e. Unit {0}))
-      → (lasting : (crashed : List (List ℕ)) → IsCrashImage (map state h.closed.cells) crashed → KeepsWhole slot anchors crashed (left_by (setting_over slot anchors (length h.closed.opened.cells)) script 1 plain) (WasKept (length h.closed.opened.cells) script))
+      → (run : IsPlainRun told state offers_of h.closed.store slot anchors
+      (length h.closed.opened.cells) script plain one.only h.closed.cells)
+      → (kept : KeepsWhole slot anchors (map (λ (c : C). (state c).now) h.closed.cells)
+      (left_by (setting_over slot anchors (length h.closed.opened.cells)) script 1 plain) (λ e. Unit {0}))
+      → (lasting : (crashed : List (List ℕ)) → IsCrashImage (map state h.closed.cells) crashed
+      → KeepsWhole slot anchors crashed (left_by (setting_over slot anchors (length h.closed.opened.cells)) script 1 plain)
+      (WasKept (length h.closed.opened.cells) script))
       → ((a : ℕ) → a < (basis told state offers_of h.closed.store).setting.anchors
-      → word h.closed.closed.gathered.state a ≡ word_number (word_at (setting_of (basis told state offers_of h.closed.store)) (left_by (setting_over slot anchors (length h.closed.opened.cells)) script 1 plain) a))
+      → word h.closed.closed.gathered.state a ≡ word_number (word_at (setting_of (basis told state offers_of h.closed.store))
+      (left_by (setting_over slot anchors (length h.closed.opened.cells)) script 1 plain) a))
       → EndedPlainly (word h.closed.closed.gathered.state) (plainly plain opened run kept lasting)
   unfolding plainly
   words_over plain opened run kept lasting words a lt =
       words a (subst (λ (n : ℕ). a < n) (sym opened_alone.anchors_are) lt)
-      ∙ ap (λ (t : Setting). word_number (word_at t (left_by (setting_over slot anchors (length h.closed.opened.cells)) script 1 plain) a)) setting_is
-      ∙ ap (λ (n : ℕ). word_number (word_at (setting_over slot anchors n) (left_by (setting_over slot anchors n) script 1 plain) a)) (sym (length-map h.closed.opened.cells (λ (c : C). (state c).now)))
+      ∙ ap (λ (t : Setting). word_number (word_at t (left_by (setting_over slot anchors (length h.closed.opened.cells)) script 1 plain) a))
+      setting_is
+      ∙ ap (λ (n : ℕ). word_number (word_at (setting_over slot anchors n) (left_by (setting_over slot anchors n) script 1 plain) a))
+      (sym (length-map h.closed.opened.cells (λ (c : C). (state c).now)))
     where
       setting_is : setting_of (basis told state offers_of h.closed.store) ≡ setting_over slot anchors (length h.closed.opened.cells)
-      setting_is i = record { slots = opened_alone.slots_are i; room = room_of (opened_alone.slot_is i); anchors = opened_alone.anchors_are i }
+      setting_is i = record {
+        slots = opened_alone.slots_are i;
+        room = room_of (opened_alone.slot_is i);
+        anchors =
+            opened_alone.anchors_are i;
+      }

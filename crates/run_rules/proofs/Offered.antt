@@ -15,7 +15,8 @@ found_among : (p : Line → Bool) (lines : List Line) (line : Line) → find p l
 found_among p [] line e = cc
 found_among p (l ∷ lines) line e = by_test (p l) e (found_among p lines line)
   where
-    by_test : (b : Bool) → cond b (Some l) (find p lines) ≡ Some line → (find p lines ≡ Some line → Contains lines line) → Contains (l ∷ lines) line
+    by_test : (b : Bool) → cond b (Some l) (find p lines) ≡ Some line → (find p lines ≡ Some line → Contains lines line)
+        → Contains (l ∷ lines) line
     by_test true q rest = (0, omega arith, the q)
       where
         the : Some l ≡ Some line → l ≡ line
@@ -24,15 +25,31 @@ found_among p (l ∷ lines) line e = by_test (p l) e (found_among p lines line)
 
 -- a request that offers this response offers its body under its URL
 offers_it : (request : Request) (r : Response) → offered_in request ≡ Some r → Offers request r.url r.body
-offers_it (Put u b) r e = (ap (λ (z : Option Response). option_map_or (λ x. x.url) z u) e, ap (λ (z : Option Response). option_map_or (λ x. x.body) z b) e)
-offers_it (Save u b) r e = (ap (λ (z : Option Response). option_map_or (λ x. x.url) z u) e, ap (λ (z : Option Response). option_map_or (λ x. x.body) z b) e)
-offers_it (Begin tab u b) r e = (ap (λ (z : Option Response). option_map_or (λ x. x.url) z u) e, ap (λ (z : Option Response). option_map_or (λ x. x.body) z b) e)
+offers_it (Put u b) r e = (
+  ap (λ (z : Option Response). option_map_or (λ x. x.url) z u) e,
+  ap (λ (z : Option Response). option_map_or (λ x. x.body) z b) e,
+)
+offers_it (Save u b) r e = (
+  ap (λ (z : Option Response). option_map_or (λ x. x.url) z u) e,
+  ap (λ (z : Option Response). option_map_or (λ x. x.body) z b) e,
+)
+offers_it (Begin tab u b) r e = (
+  ap (λ (z : Option Response). option_map_or (λ x. x.url) z u) e,
+  ap (λ (z : Option Response). option_map_or (λ x. x.body) z b) e,
+)
 offers_it _ r e = cc
 
 module _ (lines : List Line) (number : ℕ) where
-  of_line : (found : Option Line) → find (λ line. line.number == number) lines ≡ found → (r : Response) → option_and_then (λ line. offered_in line.request) found ≡ Some r → IsOffered lines r.url (bytes_of r.body)
+  of_line : (found : Option Line) → find (λ line. line.number == number) lines ≡ found → (r : Response)
+      → option_and_then (λ line. offered_in line.request) found ≡ Some r → IsOffered lines r.url (bytes_of r.body)
   of_line None is r e = cc
-  of_line (Some line) is r e = record { line = line; among = found_among (λ (l : Line). l.number == number) lines line is; made = r.body; offers = offers_it line.request r e; body_is = refl }
+  of_line (Some line) is r e = record {
+    line = line;
+    among = found_among (λ (l : Line). l.number == number) lines line is;
+    made = r.body;
+    offers = offers_it line.request r e;
+    body_is = refl;
+  }
 
   of_response : (offered : Option Response) → offered_by lines number ≡ offered → option_map_or (λ (r : Response). r.url) offered [] ≢ []
       → IsOffered lines (option_map_or (λ (r : Response). r.url) offered []) (option_map_or (λ (r : Response). bytes_of r.body) offered [])

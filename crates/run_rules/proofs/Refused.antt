@@ -30,15 +30,20 @@ mapped f [] k x e = absurd (some-ne-none x (sym e))
 mapped f (y ∷ xs) zero x e = ap (λ z. some (f z)) (some-injective y x e)
 mapped f (y ∷ xs) (suc k) x e = mapped f xs k x e
 
-module _ {X : Type 0} (crew : List (Worker X)) (held : Word) (printed : map (λ w. printed_by w.served) crew ≡ ((1, answer.Busy held held) ∷ []) ∷ ((2, answer.Busy held held) ∷ []) ∷ []) where
+module _ (crew : List Worker) (held : Word) (printed : map (λ w. printed_by w.served) crew ≡ ((1, answer.Busy held held) ∷ [])
+    ∷ ((2, answer.Busy held held) ∷ []) ∷ []) where
   abbrev busy : Answer
   busy = answer.Busy held held
 
-  refused : (n : ℕ) (served later earlier : List Served) (s : Served) → printed_by served ≡ (n, busy) ∷ [] → served ≡ later ++ s ∷ earlier → s.answer ≡ busy
-  refused n served later earlier s is split = let l = one_line served n busy is in ap Served.answer (sym (only l.served later earlier s (sym l.is ∙ split))) ∙ l.answer_is
+  refused : (n : ℕ) (served later earlier : List Served) (s : Served) → printed_by served ≡ (n, busy) ∷ [] → served ≡ later ++ s ∷ earlier
+      → s.answer ≡ busy
+  refused n served later earlier s is split = let l = one_line served n busy is in
+      ap Served.answer (sym (only l.served later earlier s (sym l.is ∙ split))) ∙ l.answer_is
 
-  by_place : (j : ℕ) (w : Worker X) → get_elem? crew j ≡ some w → (later earlier : List Served) (s : Served) → w.served ≡ later ++ s ∷ earlier → s.answer ≡ busy
-  by_place j w at later earlier s split = at_index j (ap (λ (l : List (List (ℕ × Answer))). get_elem? l j) (sym printed) ∙ mapped (λ (w : Worker X). printed_by w.served) crew j w at)
+  by_place : (j : ℕ) (w : Worker) → get_elem? crew j ≡ some w → (later earlier : List Served) (s : Served) → w.served ≡ later ++ s ∷ earlier
+      → s.answer ≡ busy
+  by_place j w at later earlier s split = at_index j (ap (λ (l : List (List (ℕ × Answer))). get_elem? l j) (sym printed)
+      ∙ mapped (λ (w : Worker). printed_by w.served) crew j w at)
     where
       at_index : (k : ℕ) → get_elem? (((1, busy) ∷ []) ∷ ((2, busy) ∷ []) ∷ []) k ≡ some (printed_by w.served) → s.answer ≡ busy
       at_index zero e = refused 1 w.served later earlier s (sym (some-injective ((1, busy) ∷ []) (printed_by w.served) e)) split
@@ -49,12 +54,14 @@ module _ {X : Type 0} (crew : List (Worker X)) (held : Word) (printed : map (λ 
   all_refused p = by_place p.j p.worker p.at p.later p.earlier p.served p.split
 
 -- the first worker's line is at the anchor of its URL
-pub at_home : {X : Type 0} (r : Run X) (crew : List (Worker X)) (url : List ℕ) (body other : Body) (held : Word)
-    → ServesScript (record { worker = 1; number = 1; request = Put url body } ∷ record { worker = 2; number = 2; request = Put url other } ∷ []) crew
+pub at_home : {X : Type 0} (r : Run X) (crew : List Worker) (url : List ℕ) (body other : Body) (held : Word)
+    → ServesScript (record { worker = 1; number = 1; request = Put url body } ∷ record { worker = 2; number = 2; request = Put url other }
+    ∷ []) crew
     → map (λ w. printed_by w.served) crew ≡ ((1, answer.Busy held held) ∷ []) ∷ ((2, answer.Busy held held) ∷ []) ∷ []
     → LineIn crew (λ earlier s. IsAt r.setting.anchors earlier s (anchor_of (key_of url) r.setting.anchors))
-at_home {X} r crew url body other held serves printed =
-    let w = image (λ (w : Worker X). printed_by w.served) crew 0 ((1, answer.Busy held held) ∷ []) (ap (λ (l : List (List (ℕ × Answer))). get_elem? l 0) printed) in
+at_home r crew url body other held serves printed =
+    let w = image (λ (w : Worker). printed_by w.served) crew 0 ((1, answer.Busy held held) ∷ [])
+    (ap (λ (l : List (List (ℕ × Answer))). get_elem? l 0) printed) in
     let l = one_line w.item.served 1 (answer.Busy held held) w.is in
     let line : Line = record { worker = 1; number = 1; request = Put url body } in
     let lines : l.served.asked ∷ [] ≡ line ∷ [] = sym (ap in_order l.is) ∙ serves 0 w.item w.at in

@@ -28,7 +28,8 @@ of_filter : (p : Line → Bool) (lines : List Line) (line : Line) → Contains (
 of_filter p [] line h = absurd (contains_none line h)
 of_filter p (l ∷ lines) line h = by_test (p l) h (of_filter p lines line)
   where
-    by_test : (b : Bool) → Contains (cond b (l ∷ filter p lines) (filter p lines)) line → (Contains (filter p lines) line → Contains lines line) → Contains (l ∷ lines) line
+    by_test : (b : Bool) → Contains (cond b (l ∷ filter p lines) (filter p lines)) line
+        → (Contains (filter p lines) line → Contains lines line) → Contains (l ∷ lines) line
     by_test true g rest = ⊎_elim
         (λ (e : l ≡ line). (0, omega arith, e))
         (λ (k : Contains (filter p lines) line). Contains-append_right (l ∷ []) lines line (rest k))
@@ -44,19 +45,22 @@ among (y ∷ served) [] earlier s e = let here : y ≡ s = cc in
 among (y ∷ served) (x ∷ later) earlier s e = in_front s.asked (in_order served) (y.asked ∷ []) (among served later earlier s cc)
 
 -- a line of a worker is one of the script
-pub in_script : {X : Type 0} (script : List Line) (crew : List (Worker X)) (P : List Served → Served → Type 0) → ServesScript script crew → (p : LineIn crew P) → Contains script p.served.asked
+pub in_script : (script : List Line) (crew : List Worker) (P : List Served → Served → Type 0) → ServesScript script crew
+    → (p : LineIn crew P) → Contains script p.served.asked
 in_script script crew P serves p = of_filter (λ l. l.worker == p.j + 1) script p.served.asked
     (subst (λ ls. Contains ls p.served.asked) (serves p.j p.worker p.at) (among p.worker.served p.later p.earlier p.served p.split))
 
 -- a request that offers a body, and names this URL, offers it under the URL
-pub offer_of : (request : Request) (url : List ℕ) → offers request ≡ true → url_in request ≡ Some url → (body : Body) × Offers request url body
+pub offer_of : (request : Request) (url : List ℕ) → offers request ≡ true → url_in request ≡ Some url
+    → (body : Body) × Offers request url body
 offer_of (Put u b) url is named = (b, (cc, refl))
 offer_of (Save u b) url is named = (b, (cc, refl))
 offer_of (Begin tab u b) url is named = (b, (cc, refl))
 offer_of _ url is named = absurd cc
 
 -- so the script offers it
-pub offered : {X : Type 0} (script : List Line) (crew : List (Worker X)) (P : List Served → Served → Type 0) → ServesScript script crew → (p : LineIn crew P) → (url : List ℕ) (body : Body)
+pub offered : (script : List Line) (crew : List Worker) (P : List Served → Served → Type 0) → ServesScript script crew → (p : LineIn crew P)
+    → (url : List ℕ) (body : Body)
     → Offers p.served.asked.request url body → IsOffered script url (bytes_of body)
 offered script crew P serves p url body offers = record {
   line = p.served.asked;

@@ -1,5 +1,6 @@
 -- Epochs of version 0: they are at EMPTY and not doomed, since each entry of a file has a version above 0.
-use Rattle.std.proofs.Common.{List, [], ap, arith, length, map, refl, subst, sym, ⊎_elim, ◌++◌, ◌+◌, ◌<◌, ◌==◌, ◌∙◌, ◌∷◌, ◌≡◌, ◌≤◌, length-append, ℕ}
+use Rattle.std.proofs.Common.{List, [], ap, arith, length, map, refl, subst, sym, ⊎_elim, ◌++◌, ◌+◌, ◌<◌, ◌==◌, ◌∙◌, ◌∷◌, ◌≡◌, ◌≤◌}
+use Rattle.std.proofs.Common.{length-append, ℕ}
 use Rattle.std.specs.Prelude.{Contains, false}
 use mathlib.Core.Option.{some}
 use lib.ListN.{get_elem?}
@@ -29,7 +30,8 @@ use Rattle.run_rules.specs.Runs.{printed_by}
 use Rattle.run_rules.proofs.Files.{anchor_below}
 use Rattle.run_rules.proofs.Lists.{image}
 
-module _ {X : Type 0} (r : Run X) (slot anchors : ℕ) (images : List (List ℕ)) (script : List Line) (crew : List (Worker X)) (rules : KeepsRules r script crew) (began : BeganWithFile r slot anchors images)
+module _ {X : Type 0} (r : Run X) (slot anchors : ℕ) (images : List (List ℕ)) (script : List Line) (crew : List Worker)
+    (rules : KeepsRules r script crew) (began : BeganWithFile r slot anchors images)
     (same : r.setting.anchors ≡ anchors) (some_anchor : 0 < anchors) where
   -- a winner has a version above 0
   above : (a : ℕ) (h : HadWinner r slot anchors images a) → 0 < version_of (opening_epoch r.setting a)
@@ -44,11 +46,13 @@ module _ {X : Type 0} (r : Run X) (slot anchors : ℕ) (images : List (List ℕ)
   zero_empty a e p none = rules.epochs.empty a e p (omega arith) nothing
     where
       below : a < anchors
-      below = let at = p.so.at in subst (λ n. n < anchors) (sym (at.anchor ∙ ap (λ n. anchor_of (key_of at.url) n) same)) (anchor_below (key_of at.url) anchors some_anchor)
+      below = let at = p.so.at in subst (λ n. n < anchors) (sym (at.anchor ∙ ap (λ n. anchor_of (key_of at.url) n) same))
+          (anchor_below (key_of at.url) anchors some_anchor)
 
       nothing : stage_of (opening_epoch r.setting a) ≡ 0
       nothing = ⊎_elim
-          (λ (h : HadWinner r slot anchors images a). absurd (let up = above a h in let is = (rules.epochs.old a e p (omega arith)).0 in omega arith))
+          (λ (h : HadWinner r slot anchors images a). absurd (let up = above a h in let is = (rules.epochs.old a e p (omega arith)).0 in
+          omega arith))
           (λ (h : HadNothing r slot anchors images a). ap stage_of h.epoch)
           (began.each a below)
 
@@ -60,7 +64,8 @@ pub record OneLine (lines : List Served) (a : Answer) : Type 0 where
 
 pub one_line : (served : List Served) (n : ℕ) (a : Answer) → printed_by served ≡ (n, a) ∷ [] → OneLine served a
 one_line [] n a e = absurd (let long = ap length e in omega arith)
-one_line (s ∷ []) n a e = let one : (s.asked.number, s.answer) ≡ (n, a) = cc in record { served = s; is = refl; answer_is = ap (λ (p : ℕ × Answer). p.1) one }
+one_line (s ∷ []) n a e = let one : (s.asked.number, s.answer) ≡ (n, a) = cc in
+    record { served = s; is = refl; answer_is = ap (λ (p : ℕ × Answer). p.1) one }
 one_line (s ∷ t ∷ rest) n a e =
     let inner = length-append (printed_by rest) ((t.asked.number, t.answer) ∷ []) in
     let outer = length-append (printed_by rest ++ (t.asked.number, t.answer) ∷ []) ((s.asked.number, s.answer) ∷ []) in
@@ -68,12 +73,15 @@ one_line (s ∷ t ∷ rest) n a e =
     absurd (omega arith)
 
 -- No `put` of a lone worker is refused by an epoch of version 0 that is not at EMPTY.
-module _ {X : Type 0} (r : Run X) (crew : List (Worker X)) (zero : (a e : ℕ) → ShownIn r crew a e → version_of e ≡ 0 → (stage_of e ≡ 0) × (doom_of e ≡ 0)) (url : List ℕ) (body : Body) (held : Word)
-    (serves : ServesScript (record { worker = 1; number = 1; request = Put url body } ∷ []) crew) (printed : map (λ w. printed_by w.served) crew ≡ ((1, answer.Busy held held) ∷ []) ∷ [])
+module _ {X : Type 0} (r : Run X) (crew : List Worker) (zero : (a e : ℕ) → ShownIn r crew a e → version_of e ≡ 0
+    → (stage_of e ≡ 0) × (doom_of e ≡ 0)) (url : List ℕ) (body : Body) (held : Word)
+    (serves : ServesScript (record { worker = 1; number = 1; request = Put url body } ∷ []) crew)
+    (printed : map (λ w. printed_by w.served) crew ≡ ((1, answer.Busy held held) ∷ []) ∷ [])
     (of : held.epoch ≡ record { version = 0; stage = stage.Freeing; doom = false }) where
   pub never_zero : ⊥
   never_zero =
-      let w = image (λ (w : Worker X). printed_by w.served) crew 0 ((1, answer.Busy held held) ∷ []) (ap (λ (l : List (List (ℕ × Answer))). get_elem? l 0) printed) in
+      let w = image (λ (w : Worker). printed_by w.served) crew 0 ((1, answer.Busy held held) ∷ [])
+      (ap (λ (l : List (List (ℕ × Answer))). get_elem? l 0) printed) in
       let l = one_line w.item.served 1 (answer.Busy held held) w.is in
       let line : Line = record { worker = 1; number = 1; request = Put url body } in
       let lines : l.served.asked ∷ [] ≡ line ∷ [] = sym (ap in_order l.is) ∙ serves 0 w.item w.at in
@@ -90,7 +98,8 @@ module _ {X : Type 0} (r : Run X) (crew : List (Worker X)) (zero : (a e : ℕ) �
         split = l.is;
         so = record {
           at = record { url = url; named_is = ap (λ (z : Line). url_at [] z.request) one; anchor = refl };
-          shown = subst (λ (z : List ℕ). Contains z e) (sym (ap (epochs_of l.served.opened l.served.looked) l.answer_is)) (0, omega arith, refl);
+          shown = subst (λ (z : List ℕ). Contains z e) (sym (ap (epochs_of l.served.opened l.served.looked) l.answer_is))
+              (0, omega arith, refl);
         };
       })
       (version_of-epoch_number held.epoch ∙ ap (λ (z : Epoch). z.version) of) in

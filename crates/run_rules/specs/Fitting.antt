@@ -10,13 +10,18 @@ use Rattle.rock_run.specs.Offered.{most_taken}
 module _ (slot anchors : ℕ) (images : List (List ℕ)) where
   -- an entry with so many slots, which a rebuild of the file keeps at the anchor
   pub record KeepsSlots (a count : ℕ) : Type 0 where
+    -- an entry
     pub entry : Entry
+    -- that a rebuild keeps at the anchor
     pub winner : IsWinner slot images anchors a entry
+    -- with so many slots
     pub count_is : count ≡ length entry.chain
 
   -- a rebuild keeps nothing there, and so no slot
   pub record KeepsNone (a count : ℕ) : Type 0 where
+    -- a rebuild keeps nothing at the anchor
     pub none : HasNoneAt slot images anchors a
+    -- so no slot is kept there
     pub count_is : count ≡ 0
 
   -- The most that an anchor ever holds at which a rebuild keeps so many slots: these, or what the response of the script takes there that
@@ -28,6 +33,7 @@ module _ (slot anchors : ℕ) (images : List (List ℕ)) where
   pub record FitsInto (script : List Line) : Type 0 where
     -- So many slots are kept at each anchor.
     pub kept : ℕ → ℕ
+    -- They are those of the entry that a rebuild keeps there, or none.
     pub file : (a : ℕ) → a < anchors → KeepsSlots a (kept a) ⊎ KeepsNone a (kept a)
     -- The most that each anchor ever holds is together no more than the slots of the file.
     pub enough : sum_by (most_held script kept) (range_with_len 0 anchors) ≤ length images

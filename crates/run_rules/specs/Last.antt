@@ -10,7 +10,7 @@ use Rattle.line_account.specs.Printed.{GivenBackIn, HadEntry}
 use Rattle.lock_word.specs.declared.stage.Stage.TheVariants.{Closed, Freeing, Gone}
 use Rattle.line_account.specs.EpochNames.{IsAtStage, IsDoomed, IsFromStage, IsUndoomed}
 
-module _ {X : Type 0} (r : Run X) (crew : List (Worker X)) (last : ℕ → ℕ) where
+module _ {X : Type 0} (r : Run X) (crew : List Worker) (last : ℕ → ℕ) where
   -- what stood at the anchor: an epoch, its version and its stage
   abbrev pub last_epoch : ℕ → ℕ
   last_epoch a = epoch_of (last a)

@@ -32,10 +32,15 @@ numbered lines given = zip (map (λ line. line.number) lines) given
 
 -- the file of this name is in, and a read of its cells gives these images
 pub record HasCells (files : Files) (name : List ℕ) (images : List (List ℕ)) : Type 0 where
+  -- its header area
   pub header : CellState
+  -- the cells of its slots
   pub cells : List CellState
+  -- the bytes behind them
   pub rest : List ℕ
+  -- the file has these
   pub there : get files name ≡ Some (Home header cells rest)
+  -- and reads of the cells give the images
   pub images_are : images ≡ map (λ c. c.now) cells
 
 -- the stations of workers were ended with no fault

@@ -15,25 +15,36 @@ use Rattle.line_account.specs.Printed.{Finds, HitIn, KeyIn, PrintsOther, ReadsOf
 use Rattle.line_account.specs.Tabs.{ReadsOn}
 use Rattle.run_rules.specs.Responses.{HasTwin, IsFrontOf, IsResponse}
 
-module _ {X : Type 0} (r : Run X) (slot anchors : ℕ) (images : List (List ℕ)) (script : List Line) (crew : List (Worker X)) where
+module _ {X : Type 0} (r : Run X) (slot anchors : ℕ) (images : List (List ℕ)) (script : List Line) (crew : List Worker) where
   -- the winner of an anchor, whose URL and body these are
   pub record IsOfWinner (a : ℕ) (url body : List ℕ) : Type 0 where
+    -- an entry
     pub entry : Entry
+    -- that a rebuild of the file keeps at the anchor
     pub winner : IsWinner slot images anchors a entry
+    -- with this URL
     pub url_is : url ≡ entry.url
+    -- and this body
     pub body_is : body ≡ entry.body
 
   -- bytes are the first ones of its body, and all of it where the answer says so
   pub record IsFrontOfWinner (a : ℕ) (told : Answer) (bytes : List ℕ) : Type 0 where
+    -- an entry
     pub entry : Entry
+    -- that a rebuild of the file keeps at the anchor
     pub winner : IsWinner slot images anchors a entry
+    -- the bytes are the first ones of its body
     pub first_ones : bytes ≡ take (length bytes) entry.body
+    -- and all of it at HIT and END
     pub whole : IsWhole told → bytes ≡ entry.body
 
   -- and its key
   pub record IsKeyOfWinner (a : ℕ) (key : List ℕ) : Type 0 where
+    -- an entry
     pub entry : Entry
+    -- that a rebuild of the file keeps at the anchor
     pub winner : IsWinner slot images anchors a entry
+    -- the key is that of its URL
     pub key_is : key ≡ key_of entry.url
 
   -- Where the volume tells its files.

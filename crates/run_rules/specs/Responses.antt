@@ -11,10 +11,15 @@ use Rattle.line_account.specs.Lines.{Offers}
 
 -- a line of the script offers this body under this URL
 pub record IsOffered (script : List Line) (url body : List ℕ) : Type 0 where
+  -- a line
   pub line : Line
+  -- of the script
   pub among : Contains script line
+  -- with a body as the script writes it
   pub made : Body
+  -- that it offers under the URL
   pub offers : Offers line.request url made
+  -- and these are its bytes
   pub body_is : body ≡ bytes_of made
 
 module _ (slot : ℕ) (images : List (List ℕ)) (script : List Line) where
@@ -24,9 +29,13 @@ module _ (slot : ℕ) (images : List (List ℕ)) (script : List Line) where
 
   -- the bytes are the first ones of a response with this URL, and all of it where the answer says so
   pub record IsFrontOf (answer : Answer) (url bytes : List ℕ) : Type 0 where
+    -- a body
     pub body : List ℕ
+    -- that is a response under the URL
     pub response : IsResponse url body
+    -- the bytes are the first ones of it
     pub first_ones : bytes ≡ take (length bytes) body
+    -- and all of it at HIT and END
     pub whole : IsWhole answer → bytes ≡ body
 
   -- a complete entry of the file has this URL, or a line of the script offers a body under it
@@ -35,7 +44,11 @@ module _ (slot : ℕ) (images : List (List ℕ)) (script : List Line) where
 
   -- another URL that is used has the same key
   pub record HasTwin (url : List ℕ) : Type 0 where
+    -- a URL
     pub other : List ℕ
+    -- that the file or the script uses
     pub used : IsUsed other
+    -- with the same key
     pub same_key : key_of other ≡ key_of url
+    -- but another one
     pub differs : other ≢ url

@@ -27,8 +27,11 @@ use Rattle.line_account.specs.ScriptOrder.{◌then◌}
 
 -- the file of this name has slots with these images
 pub record HasImages (files : Files) (name : List ℕ) (slot : ℕ) (images : List (List ℕ)) : Type 0 where
+  -- a file
   pub was : File
+  -- of this name
   pub there : get files name ≡ Some was
+  -- the images are what its slots hold
   pub images_are : images ≡ map (λ c. c.now) (slots_cut slot (bytes_of was))
 
 -- the numbers and the answers of the lines that a worker served, the first one first
@@ -60,7 +63,7 @@ pub record IsExplained (tells : Bool) (files : Files) (name : List ℕ) (slot an
   -- what the store was opened over
   pub run : Run (List ℕ)
   -- what each worker served, in order of the workers
-  pub crew : List (Worker (List ℕ))
+  pub crew : List Worker
   -- the images of the slots of the file
   pub images : List (List ℕ)
   -- the store was opened over the file

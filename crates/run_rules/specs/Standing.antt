@@ -29,40 +29,60 @@ use Rattle.line_account.specs.EpochNames.{IsAtStage, IsUndoomed}
 
 -- a rebuild of these images keeps an entry at the anchor, with this version, URL and body
 pub record KeepsAt (slot anchors : ℕ) (images : List (List ℕ)) (a version : ℕ) (url body : List ℕ) : Type 0 where
+  -- an entry
   pub entry : Entry
+  -- that a rebuild keeps at the anchor
   pub won : IsWinner slot images anchors a entry
+  -- with this version,
   pub version_is : entry.version ≡ version
+  -- this URL
   pub url_is : entry.url ≡ url
+  -- and this body
   pub body_is : entry.body ≡ body
 
 -- an anchor with this word has a closed entry that is not doomed
 pub record IsClosedWord (w : ℕ) : Type 0 where
+  -- it is at CLOSED
   pub stage : IsAtStage Closed (epoch_of w)
+  -- and not doomed
   pub undoomed : IsUndoomed (epoch_of w)
 
 -- the line was answered so
 pub record IsAnswered (answers : List (List (ℕ × Answer))) (line : Line) (answer : Answer) : Type 0 where
+  -- the answers
   pub mine : List (ℕ × Answer)
+  -- of the worker of the line
   pub at : get_elem? answers (line.worker - 1) ≡ some mine
+  -- and the answer with the number of the line is one of them
   pub among : Contains mine (line.number, answer)
 
 module _ (slot anchors : ℕ) (images : List (List ℕ)) (script : List Line) (cells : List CellState) (a version : ℕ) where
   -- The entry that a rebuild of the file kept at the anchor stands there still: a rebuild of the cells keeps it, as they are and in
   -- all that a crash may leave of them.
   pub record StandsAsBefore : Type 0 where
+    -- a URL
     pub url : List ℕ
+    -- and a body
     pub body : List ℕ
+    -- that a rebuild of the file kept at the anchor, with the version
     pub file : KeepsAt slot anchors images a version url body
+    -- a rebuild of the cells as they are keeps them there
     pub now : KeepsAt slot anchors (map (λ c. c.now) cells) a version url body
+    -- and so does one of whatever a crash leaves of the cells
     pub left : (crashed : List (List ℕ)) → IsCrashImage cells crashed → KeepsAt slot anchors crashed a version url body
 
   -- What a line of the script offers stands there: a rebuild of the cells as they are keeps it, and if the line is a `save`, so does
   -- one of all that a crash may leave of them.
   pub record StandsAsOffered : Type 0 where
+    -- a URL
     pub url : List ℕ
+    -- and a body
     pub body : List ℕ
+    -- that a line of the script offers
     pub offered : IsOffered script url body
+    -- a rebuild of the cells as they are keeps them at the anchor, with the version
     pub now : KeepsAt slot anchors (map (λ c. c.now) cells) a version url body
+    -- and where the line is a `save`, so does one of whatever a crash leaves of the cells
     pub left : IsSave offered.line.request → (crashed : List (List ℕ)) → IsCrashImage cells crashed
         → KeepsAt slot anchors crashed a version url body
 

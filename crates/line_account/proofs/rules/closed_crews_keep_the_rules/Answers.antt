@@ -63,7 +63,7 @@ returns g c r script crew closed serves have = record {
     given_back = λ a e p undoomed at. c.entries_are_given_back_by_lines.ensures r crew a e closed p undoomed at;
     given_back_new = λ fit a e p undoomed at. c.runs_that_fit_lose_nothing.ensures.old r crew a e closed fit p undoomed at;
   };
-  order = c.lines_are_in_order.ensures r crew have;
+  order = c.lines_are_in_order.ensures r crew closed.view_at have;
   tabs = record {
     part = λ a x epoch p. c.tabs_stay_at_their_entries.ensures.part r crew a x epoch closed p;
     halted = λ a x p. c.tabs_stay_at_their_entries.ensures.halted r crew a x closed p;

@@ -47,7 +47,10 @@ returns-in-Create-clause-carried g c =
         ends = said.ends;
         says = said.says;
         refused = record { size = said.size; count = said.count; exists = said.exists };
-        complete = λ t may none. complete_create (g.V.Volume.files c.args.volume.now) c.in-Create.target.name.now c.in-Create.target.slot c.in-Create.target.slots (counts g.V.Volume.faults g.V.Volume.made g.V.Volume.ended c.args.volume.now) (counts g.V.Volume.faults g.V.Volume.made g.V.Volume.ended c.create_file.new.volume) c.create_file.result said.ends (said.says t) may none;
+        complete = λ t may none. complete_create (g.V.Volume.files c.args.volume.now) c.in-Create.target.name.now c.in-Create.target.slot
+            c.in-Create.target.slots (counts g.V.Volume.faults g.V.Volume.made g.V.Volume.ended c.args.volume.now)
+            (counts g.V.Volume.faults g.V.Volume.made g.V.Volume.ended c.create_file.new.volume) c.create_file.result said.ends
+            (said.says t) may none;
         untouched = (refl, refl);
         leaves = said.leaves;
         whole = said.whole;
@@ -85,7 +88,8 @@ returns-in-Bench-clause-carried g c =
         leaves = said.leaves;
         plain = λ one t k. plain_bench g.V.Volume.tells (g.V.Volume.files c.args.volume.now) (g.V.Volume.files c.bench_command.new.volume)
             c.in-Bench.target.name.now c.in-Bench.target.seed c.in-Bench.target.workers c.in-Bench.target.count
-            (counts g.V.Volume.faults g.V.Volume.made g.V.Volume.ended c.args.volume.now) (counts g.V.Volume.faults g.V.Volume.made g.V.Volume.ended c.bench_command.new.volume)
+            (counts g.V.Volume.faults g.V.Volume.made g.V.Volume.ended c.args.volume.now)
+            (counts g.V.Volume.faults g.V.Volume.made g.V.Volume.ended c.bench_command.new.volume)
             (g.K.Sink.taken c.args.out.now) (g.K.Sink.taken c.bench_command.new.out) c.bench_command.result (said.prints k) one t;
         stations = said.ended;
         unfailed = said.device_unfailed;
@@ -102,7 +106,8 @@ returns-in-Migrate-clause-carried g c =
         ends = said.ends;
         says = said.says;
         refused = said.refused;
-        complete = λ t may none. complete AnyCount (g.V.Volume.files c.args.volume.now) c.in-Migrate.target.name.now (Some c.in-Migrate.target.slot) _ _ _ _ c.migrate_file.result said.ends (said.says t) may none;
+        complete = λ t may none. complete AnyCount (g.V.Volume.files c.args.volume.now) c.in-Migrate.target.name.now
+            (Some c.in-Migrate.target.slot) _ _ _ _ c.migrate_file.result said.ends (said.says t) may none;
         prints = said.prints;
         leaves = said.leaves;
         marked = said.marked;
@@ -113,11 +118,15 @@ returns-in-Migrate-clause-carried g c =
 
 pub returns-in-List-clause-back : goal.returns-in-List-clause-back
 returns-in-List-clause-back g c t =
-    home_when_kept c.kept_files_have_their_bytes.ensures.home c.in-List.target.name.now c.in-List.target.slot (g.V.Volume.files c.args.volume.now) (g.V.Volume.files c.print_report.new.volume) (c.print_report.ensures.kept t) (c.requires.home t)
+    home_when_kept c.kept_files_have_their_bytes.ensures.home c.in-List.target.name.now c.in-List.target.slot
+    (g.V.Volume.files c.args.volume.now) (g.V.Volume.files c.print_report.new.volume) (c.print_report.ensures.kept t)
+    (c.requires.home t)
 
 pub returns-in-Check-clause-back : goal.returns-in-Check-clause-back
 returns-in-Check-clause-back g c t =
-    home_when_kept c.kept_files_have_their_bytes.ensures.home c.in-Check.target.name.now c.in-Check.target.slot (g.V.Volume.files c.args.volume.now) (g.V.Volume.files c.print_report-in-Check.new.volume) (c.print_report-in-Check.ensures.kept t) (c.requires.home t)
+    home_when_kept c.kept_files_have_their_bytes.ensures.home c.in-Check.target.name.now c.in-Check.target.slot
+    (g.V.Volume.files c.args.volume.now) (g.V.Volume.files c.print_report-in-Check.new.volume) (c.print_report-in-Check.ensures.kept t)
+    (c.requires.home t)
 
 pub returns-in-Create-clause-back : goal.returns-in-Create-clause-back
 returns-in-Create-clause-back g c t = c.create_file.ensures.back t (c.requires.home t)

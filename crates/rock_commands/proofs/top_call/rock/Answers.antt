@@ -4,12 +4,14 @@ use Rattle.rock_status.specs.declared.status.Status.TheVariants as status
 use Rattle.rock_commands.specs.Command.{IsCommand}
 use Rattle.rock_commands.specs.CommandLine.{IsCommandLine}
 use Rattle.rock_commands.specs.declared.command.Command.{Command}
-use Rattle.rock_commands.proofs.Carried.{bench_of, check_of, create_of, is_line, list_of, migrate_of, never_usage, run_of, script_of, sink_failed, source_failed, stations_of}
+use Rattle.rock_commands.proofs.Carried.{bench_of, check_of, create_of, is_line, list_of, migrate_of, never_usage, run_of, script_of}
+use Rattle.rock_commands.proofs.Carried.{sink_failed, source_failed, stations_of}
 use Rattle.rock_commands.proofs.ReportFacts.{none_ended}
 use Rattle.rock_commands.proofs.top_call.rock.Goals as goal
 
 -- words that were not read are no command line
-not_read : {words : List (List ℕ)} {o : Option Command} → o ≡ None → MatchOption o (IsCommandLine words → ⊥) (IsCommand words) → IsCommandLine words → ⊥
+not_read : {words : List (List ℕ)} {o : Option Command} → o ≡ None → MatchOption o (IsCommandLine words → ⊥) (IsCommand words)
+    → IsCommandLine words → ⊥
 not_read {words = words} is read = subst (λ r. MatchOption r (IsCommandLine words → ⊥) (IsCommand words)) is read
 
 no_sink : status.Usage ≡ status.SinkFault → ⊥
@@ -28,19 +30,24 @@ pub returns-in_default-clause-list : goal.returns-in_default-clause-list
 returns-in_default-clause-list g c name given asked = absurd (not_read c.in_default.is c.parse.ensures (inl (name, given, asked)))
 
 pub returns-in_default-clause-check : goal.returns-in_default-clause-check
-returns-in_default-clause-check g c name given anchors asked = absurd (not_read c.in_default.is c.parse.ensures (inr (inl (name, given, anchors, asked))))
+returns-in_default-clause-check g c name given anchors asked = absurd
+    (not_read c.in_default.is c.parse.ensures (inr (inl (name, given, anchors, asked))))
 
 pub returns-in_default-clause-create : goal.returns-in_default-clause-create
-returns-in_default-clause-create g c name slot slots asked = absurd (not_read c.in_default.is c.parse.ensures (inr (inr (inl (name, slot, slots, asked)))))
+returns-in_default-clause-create g c name slot slots asked = absurd
+    (not_read c.in_default.is c.parse.ensures (inr (inr (inl (name, slot, slots, asked)))))
 
 pub returns-in_default-clause-run : goal.returns-in_default-clause-run
-returns-in_default-clause-run g c name given anchors workers asked = absurd (not_read c.in_default.is c.parse.ensures (inr (inr (inr (inl (name, given, anchors, workers, asked))))))
+returns-in_default-clause-run g c name given anchors workers asked =
+    absurd (not_read c.in_default.is c.parse.ensures (inr (inr (inr (inl (name, given, anchors, workers, asked))))))
 
 pub returns-in_default-clause-bench : goal.returns-in_default-clause-bench
-returns-in_default-clause-bench g c name seed workers count asked = absurd (not_read c.in_default.is c.parse.ensures (inr (inr (inr (inr (inl (name, seed, workers, count, asked)))))))
+returns-in_default-clause-bench g c name seed workers count asked =
+    absurd (not_read c.in_default.is c.parse.ensures (inr (inr (inr (inr (inl (name, seed, workers, count, asked)))))))
 
 pub returns-in_default-clause-migrate : goal.returns-in_default-clause-migrate
-returns-in_default-clause-migrate g c name slot asked = absurd (not_read c.in_default.is c.parse.ensures (inr (inr (inr (inr (inr (name, slot, asked)))))))
+returns-in_default-clause-migrate g c name slot asked = absurd (not_read c.in_default.is c.parse.ensures
+    (inr (inr (inr (inr (inr (name, slot, asked)))))))
 
 pub returns-in_default-clause-stations : goal.returns-in_default-clause-stations
 returns-in_default-clause-stations g c run bench = record {

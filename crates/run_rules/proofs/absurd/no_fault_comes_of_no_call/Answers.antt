@@ -9,10 +9,13 @@ rest_same : (x y : ℕ) (xs ys : List ℕ) → x ∷ xs ≡ y ∷ ys → xs ≡ 
 rest_same x y xs ys e = cc
 
 pub returns-clause-made : goal.returns-clause-made
-returns-clause-made c tells files name slot anchors m n script before after h one = let many = h.many in let made = h.ended.made in omega arith
+returns-clause-made c tells files name slot anchors m n script before after h one = let many = h.many in let made = h.ended.made in
+    omega arith
 
 pub returns-clause-counted : goal.returns-clause-counted
 returns-clause-counted c tells files name slot anchors m n script before after h none =
-    let stations : h.stations ≡ 0 ∷ 0 ∷ [] = rest_same 0 0 h.stations (0 ∷ 0 ∷ []) (append_cancel_left before.ended (0 ∷ h.stations) (0 ∷ 0 ∷ 0 ∷ []) (sym h.ended.ended ∙ none)) in
-    let least : min (faults_in ((m, answer.Fault) ∷ [])) (2 ^ 64 - 1) ≤ 0 = h.faults 0 0 ((m, answer.Fault) ∷ []) refl (ap (λ (l : List ℕ). get_elem? l 0) stations) in
+    let stations : h.stations ≡ 0 ∷ 0 ∷ [] = rest_same 0 0 h.stations (0 ∷ 0 ∷ [])
+    (append_cancel_left before.ended (0 ∷ h.stations) (0 ∷ 0 ∷ 0 ∷ []) (sym h.ended.ended ∙ none)) in
+    let least : min (faults_in ((m, answer.Fault) ∷ [])) (2 ^ 64 - 1) ≤ 0 =
+    h.faults 0 0 ((m, answer.Fault) ∷ []) refl (ap (λ (l : List ℕ). get_elem? l 0) stations) in
     absurd (omega arith)

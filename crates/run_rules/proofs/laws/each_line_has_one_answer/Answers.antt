@@ -11,5 +11,6 @@ returns g c tells files left name slot anchors workers script answers before aft
     let played = h.served.played in
     ap (sum_by (λ (mine : List (ℕ × Answer)). length mine)) (sym played.answers_are)
     ∙ as_many_answers workers played.accounts script
-    (as_many tells g.C.Cell.tells g.C.Cell.state g.St.Station.faults files left name slot anchors workers script answers before after h) within
+    (as_many tells g.C.Cell.tells g.C.Cell.state g.St.Station.faults files left name slot anchors workers script answers before after h)
+    within
     (λ w a at. (played.each w a (at_place played.accounts w a at)).each)

@@ -22,39 +22,68 @@ use Rattle.run_rules.proofs.laws.lone_runs_are_answered_plainly.Goals as goal
 
 pub returns : goal.returns
 returns g c tells files left name slot anchors workers script answers before after sized numbered h alone told none =
-    let first = one tells g.C.Cell.tells g.C.Cell.state g.St.Station.faults files left name slot anchors workers script answers before after h alone told in
+    let first = one tells g.C.Cell.tells g.C.Cell.state g.St.Station.faults files left name slot anchors workers script answers before after
+    h alone told in
     let cells = h.closed.opened.cells in
     let known = h.closed.opened.told told in
-    let store = opened_alone tells g.C.Cell.tells g.C.Cell.state g.St.Station.faults files left name slot anchors workers script answers before after h alone told in
+    let store = opened_alone tells g.C.Cell.tells g.C.Cell.state g.St.Station.faults files left name slot anchors workers script answers
+    before after h alone told in
     let opens = c.new_passes_show_plain_stores.ensures.opens slot anchors 1 script cells h.closed.store h.closed.passes known store in
-    let run = c.lone_runs_are_plain.ensures slot anchors script cells h.closed.cells h.closed.store h.closed.passes script h.served.played.accounts first.only opens.0 known
-    (c.opened_slots_are_wide_and_few.ensures.slots slot h.closed.opened.bytes _ _ sized h.closed.opened.shape) store (one_by_one script numbered)
-    (has_alone tells g.C.Cell.tells g.C.Cell.state g.St.Station.faults files left name slot anchors workers script answers before after h alone told)
-    (at_first tells g.C.Cell.tells g.C.Cell.state g.St.Station.faults files left name slot anchors workers script answers before after h alone told)
-    (station_none tells g.C.Cell.tells g.C.Cell.state g.St.Station.faults files left name slot anchors workers script answers before after h alone told none) opens.1 in
-    let laws : Laws tells g.C.Cell.tells g.C.Cell.state g.St.Station.faults files left name slot anchors workers script answers before after h told = record {
-      wins = λ a lt stage. c.closed_entries_win.ensures slot anchors workers script h.closed.opened.cells h.closed.store h.closed.passes (views_of h.closed.left) h.closed.cells a (h.closed.opened.told told) (let most = sized.to in omega arith)
-          (let few = c.opened_slots_are_wide_and_few.ensures.few slot h.closed.opened.bytes _ _ h.closed.opened.shape in let same = length-map h.closed.opened.cells g.C.Cell.state in omega arith) h.closed.opened.store h.closed.closed lt stage;
-      of_line = here_too tells g.C.Cell.tells g.C.Cell.state g.St.Station.faults files left name slot anchors workers script answers before after h told (λ a lt stage undoomed new. c.closed_entries_are_of_lines.ensures h.closed.store script h.served.played.accounts h.closed.cells a (has_played tells g.C.Cell.tells g.C.Cell.state g.St.Station.faults files left name slot anchors workers script answers before after h) lt stage undoomed new);
+    let run = c.lone_runs_are_plain.ensures slot anchors script cells h.closed.cells h.closed.store h.closed.passes script
+    h.served.played.accounts first.only opens.0 known
+    (c.opened_slots_are_wide_and_few.ensures.slots slot h.closed.opened.bytes _ _ sized h.closed.opened.shape) store
+    (one_by_one script numbered)
+    (has_alone tells g.C.Cell.tells g.C.Cell.state g.St.Station.faults files left name slot anchors workers script answers before after h
+    alone told)
+    (at_first tells g.C.Cell.tells g.C.Cell.state g.St.Station.faults files left name slot anchors workers script answers before after h
+    alone told)
+    (station_none tells g.C.Cell.tells g.C.Cell.state g.St.Station.faults files left name slot anchors workers script answers before after h
+    alone told none) opens.1 in
+    let laws : Laws tells g.C.Cell.tells g.C.Cell.state g.St.Station.faults files left name slot anchors workers script answers before after
+    h told = record {
+      wins = λ a lt stage. c.closed_entries_win.ensures slot anchors workers script h.closed.opened.cells h.closed.store h.closed.passes
+          (views_of h.closed.left) h.closed.cells a (h.closed.opened.told told) (let most = sized.to in omega arith)
+          (let few = c.opened_slots_are_wide_and_few.ensures.few slot h.closed.opened.bytes _ _ h.closed.opened.shape in
+          let same = length-map h.closed.opened.cells g.C.Cell.state in omega arith) h.closed.opened.store h.closed.closed lt stage;
+      of_line = here_too tells g.C.Cell.tells g.C.Cell.state g.St.Station.faults files left name slot anchors workers script answers before
+          after h told (λ a lt stage undoomed new. c.closed_entries_are_of_lines.ensures h.closed.store script h.served.played.accounts
+          h.closed.cells a (has_played tells g.C.Cell.tells g.C.Cell.state g.St.Station.faults files left name slot anchors workers script
+          answers before after h) lt stage undoomed new);
       lasts = λ w account at x among url body version is answered version_is stage.
           let ground = basis g.C.Cell.tells g.C.Cell.state offers_of h.closed.store in
-          let known = c.saved_entries_stay_known.ensures.known h.closed.store script w account x url body version (h.served.played.each w account (at_place h.served.played.accounts w account at)) among is answered in
-          let there = view_there tells g.C.Cell.tells g.C.Cell.state g.St.Station.faults files left name slot anchors workers script answers before after h w account at in (
-            c.finished_entries_last.ensures.lasting ground (views_of h.closed.left) h.closed.cells (saved_as ground x.line.number url version) (view account.end.pass) w h.closed.closed there known version_is stage,
-            c.finished_entries_last.ensures.offer ground (views_of h.closed.left) h.closed.cells (saved_as ground x.line.number url version) (view account.end.pass) w h.closed.closed there known version_is,
+          let known = c.saved_entries_stay_known.ensures.known h.closed.store script w account x url body version
+          (h.served.played.each w account (at_place h.served.played.accounts w account at)) among is answered in
+          let there = view_there tells g.C.Cell.tells g.C.Cell.state g.St.Station.faults files left name slot anchors workers script answers
+          before after h w account at in (
+            c.finished_entries_last.ensures.lasting ground (views_of h.closed.left) h.closed.cells
+                (saved_as ground x.line.number url version) (view account.end.pass) w h.closed.closed there known version_is stage,
+            c.finished_entries_last.ensures.offer ground (views_of h.closed.left) h.closed.cells (saved_as ground x.line.number url version)
+                (view account.end.pass) w h.closed.closed there known version_is,
           );
-      offers = λ w account at x among url body is. c.saved_entries_stay_known.ensures.offered h.closed.store script w account x url body (h.served.played.each w account (at_place h.served.played.accounts w account at)) among is;
+      offers = λ w account at x among url body is. c.saved_entries_stay_known.ensures.offered h.closed.store script w account x url body
+          (h.served.played.each w account (at_place h.served.played.accounts w account at)) among is;
     } in
     let behind : Plain = left_by (setting_over slot anchors (length cells)) script 1 opens.0 in
-    let closed : (a : ℕ) (e : PlainEntry) → a < anchors → entry_at behind a ≡ Some e → e.life ≡ Whole → StandsClosed (basis g.C.Cell.tells g.C.Cell.state offers_of h.closed.store) h.closed.closed.gathered.state behind a e =
-    λ a e lt there whole. c.whole_entries_stand_closed.ensures h.closed.store first.only.end.pass _ (views_of h.closed.left) h.closed.cells h.closed.closed a e store.passes_are
-    (first_view tells g.C.Cell.tells g.C.Cell.state g.St.Station.faults files left name slot anchors workers script answers before after h alone told) run.shows (subst (λ n. a < n) (sym store.anchors_are) lt) there whole in
+    let closed : (a : ℕ) (e : PlainEntry) → a < anchors → entry_at behind a ≡ Some e → e.life ≡ Whole
+    → StandsClosed (basis g.C.Cell.tells g.C.Cell.state offers_of h.closed.store) h.closed.closed.gathered.state behind a e =
+    λ a e lt there whole. c.whole_entries_stand_closed.ensures h.closed.store first.only.end.pass _
+    (views_of h.closed.left) h.closed.cells h.closed.closed a e store.passes_are
+    (first_view tells g.C.Cell.tells g.C.Cell.state g.St.Station.faults files left name slot anchors workers script answers before after h
+    alone told) run.shows (subst (λ n. a < n) (sym store.anchors_are) lt) there whole in
     let kept : KeepsWhole slot anchors (map (λ (c : g.row.C.Denot). (g.C.Cell.state c).now) h.closed.cells) behind (λ e. Unit {0}) =
-    λ a e lt there whole undoomed _. let sc = closed a e lt there whole in kept_now tells g.C.Cell.tells g.C.Cell.state g.St.Station.faults files left name slot anchors workers script answers before after h told laws a lt sc.stage c.one_entry_at_a_slot.ensures _ e sc in
-    let lasting : (crashed : List (List ℕ)) → IsCrashImage (map g.C.Cell.state h.closed.cells) crashed → KeepsWhole slot anchors crashed behind (WasKept (length cells) script) =
-    λ crashed crash a e lt there whole undoomed was. let sc = closed a e lt there whole in kept_left tells g.C.Cell.tells g.C.Cell.state g.St.Station.faults files left name slot anchors workers script answers before after h told laws a lt sc.stage c.one_entry_at_a_slot.ensures _ e sc numbered (sc.doom undoomed) was crashed crash in (
-      plainly tells g.C.Cell.tells g.C.Cell.state g.St.Station.faults files left name slot anchors workers script answers before after h alone told opens.0 opens.1 run kept lasting,
-      words_over tells g.C.Cell.tells g.C.Cell.state g.St.Station.faults files left name slot anchors workers script answers before after h alone told opens.0 opens.1 run kept lasting
+    λ a e lt there whole undoomed _. let sc = closed a e lt there whole in
+    kept_now tells g.C.Cell.tells g.C.Cell.state g.St.Station.faults files left name slot anchors workers script answers before after h
+    told laws a lt sc.stage c.one_entry_at_a_slot.ensures _ e sc in
+    let lasting : (crashed : List (List ℕ)) → IsCrashImage (map g.C.Cell.state h.closed.cells) crashed
+    → KeepsWhole slot anchors crashed behind (WasKept (length cells) script) =
+    λ crashed crash a e lt there whole undoomed was. let sc = closed a e lt there whole in
+    kept_left tells g.C.Cell.tells g.C.Cell.state g.St.Station.faults files left name slot anchors workers script answers before after h
+    told laws a lt sc.stage c.one_entry_at_a_slot.ensures _ e sc numbered (sc.doom undoomed) was crashed crash in (
+      plainly tells g.C.Cell.tells g.C.Cell.state g.St.Station.faults files left name slot anchors workers script answers before after h
+          alone told opens.0 opens.1 run kept lasting,
+      words_over tells g.C.Cell.tells g.C.Cell.state g.St.Station.faults files left name slot anchors workers script answers before after h
+          alone told opens.0 opens.1 run kept lasting
           (λ a lt. c.closed_words_are_plain.ensures h.closed.store first.only.end.pass _ _ h.closed.cells h.closed.closed a store.passes_are
-          (first_view tells g.C.Cell.tells g.C.Cell.state g.St.Station.faults files left name slot anchors workers script answers before after h alone told) run.shows lt),
+          (first_view tells g.C.Cell.tells g.C.Cell.state g.St.Station.faults files left name slot anchors workers script answers before
+          after h alone told) run.shows lt),
     )
