@@ -1,4 +1,4 @@
--- A tab that came to the end of its entry, or turned from it, is answered so again.
+-- A tab that came to the end of its entry, turned from it, or found that its writer gave up, is answered so again.
 use Rattle.std.proofs.Common.{Bool, List, [], ap, subst, sym, ◌++◌, ◌∙◌, ◌∷◌, ◌≡◌, true, ℕ}
 use Rattle.rock_disk.specs.Cell.{CellState}
 use Rattle.store_rule.specs.declared.store.Pass.{Pass}

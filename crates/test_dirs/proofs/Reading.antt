@@ -12,7 +12,7 @@ use Rattle.lock_word.specs.declared.epoch.Epoch.{Epoch}
 use Rattle.rock_disk.specs.Cell.{CellState}
 use Rattle.purge_entry.specs.Purging.{MayPurge}
 use Rattle.rock_reader.specs.Opening.{MayOpen}
-use Rattle.rock_reader.specs.Reading.{Gave, ReadsAs, Standing, onward, turned}
+use Rattle.rock_reader.specs.Reading.{Gave, ReadsAs, Standing, halting, onward, turned}
 use Rattle.rock_reader.specs.declared.answer.More.{More}
 use Rattle.rock_reader.specs.declared.answer.More.TheVariants.{End, Fault, Halted, NotYet, OtherUrl, Piece}
 use Rattle.store_rule.specs.declared.store.Pass.{Pass}
@@ -116,7 +116,7 @@ module _ {C O : Type 0} (tells : Bool) (state : C → CellState) (offers : O →
   gave_reads s p q e before after (Piece count) reads g = (onward e, g.reads)
   gave_reads s p q e before after (NotYet epoch) reads g = (e, g.stays)
   gave_reads s p q e before after End reads g = (e, subst (λ (z : Pass C). ReadsAs tells state offers s z t e) (sym g.still) reads)
-  gave_reads s p q e before after Halted reads g = (_, g.stays)
+  gave_reads s p q e before after Halted reads g = (halting e, g.stays)
   gave_reads s p q e before after OtherUrl reads (inl g) = (e, subst (λ (z : Pass C). ReadsAs tells state offers s z t e) (sym g.still) reads)
   gave_reads s p q e before after OtherUrl reads (inr g) = (turned e, g.reads)
   gave_reads s p q e before after Fault reads g = (e, g.stays)
