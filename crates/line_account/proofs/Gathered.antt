@@ -43,8 +43,8 @@ module _ {X : Type 0} (r : Run X) (crew : List Worker) (c : Closed r crew) where
   is_at : (j : ℕ) (x : Ended X) → get_elem? all j ≡ some x → IsEnded c.view_at crew j x
   is_at j x e = is_ended c.view_at crew j x e
 
-  there : (j : ℕ) (w : Worker) → get_elem? crew j ≡ some w → get_elem? all j ≡ some (with_view (c.view_at j) w)
-  there j w e = ended_at c.view_at crew j w e
+  placed : (j : ℕ) (w : Worker) → get_elem? crew j ≡ some w → get_elem? all j ≡ some (with_view (c.view_at j) w)
+  placed j w e = ended_at c.view_at crew j w e
 
   all_at : (j : ℕ) (x : Ended X) → get_elem? all j ≡ some x → get_elem? views (c.index j) ≡ some x.view
   all_at j x e = let h = is_at j x e in c.at j x.worker h.at ∙ ap (λ (z : Ended X). some z.view) h.is
@@ -196,7 +196,7 @@ module _ {X : Type 0} (r : Run X) (crew : List Worker) (c : Closed r crew) where
   same_worker P Q p q x d e = dite (ℕ_discrete p.j q.j) (λ h. h) (λ ne. absurd
       (let f = drawn_by_worker P p x d in
       let g = drawn_by_worker Q q x e in
-      let two = two_le_sum (λ (y : Ended X). drawn_by x y.view) all q.j p.j (with_view (c.view_at q.j) q.worker) (with_view (c.view_at p.j) p.worker) (there q.j q.worker q.at) (there p.j p.worker p.at) ne in
+      let two = two_le_sum (λ (y : Ended X). drawn_by x y.view) all q.j p.j (with_view (c.view_at q.j) q.worker) (with_view (c.view_at p.j) p.worker) (placed q.j q.worker q.at) (placed p.j p.worker p.at) ne in
       let most = drawn_sum x in
       omega arith))
 
@@ -227,7 +227,7 @@ module _ {X : Type 0} (r : Run X) (crew : List Worker) (c : Closed r crew) where
           there (seam_at p.worker.served p.later p.served p.earlier p.split) ne in
           let a = (c.accounts p.j p.worker p.at).drawn x in
           let most = drawn_sum x in
-          let l = le_sum_at (λ (y : Ended X). drawn_by x y.view) all p.j (with_view (c.view_at p.j) p.worker) (there p.j p.worker p.at) in
+          let l = le_sum_at (λ (y : Ended X). drawn_by x y.view) all p.j (with_view (c.view_at p.j) p.worker) (placed p.j p.worker p.at) in
           omega arith))
 
       place : length p.earlier ≡ length q.earlier
@@ -292,13 +292,13 @@ module _ {X : Type 0} (r : Run X) (crew : List Worker) (c : Closed r crew) where
   pub offers_more : (P : List Served → Served → Type 0) (p : LineIn crew P) → p.served.drew ≡ None → offers p.served.asked.request ≡ true
       → sum_by (λ (x : Ended X). draws_by x.view) all < offered crew
   offers_more P p none offers_body =
-      let less = sum_below (λ (x : Ended X). draws_by x.view) (λ (x : Ended X). offered_by x.worker) all p.j (with_view (c.view_at p.j) p.worker) (there p.j p.worker p.at) (λ j x at.
+      let less = sum_below (λ (x : Ended X). draws_by x.view) (λ (x : Ended X). offered_by x.worker) all p.j (with_view (c.view_at p.j) p.worker) (placed p.j p.worker p.at) (λ j x at.
       let a = (account_at j x at).draws in
       let k = sum_within (λ (s : Served). one_if (drew_some s)) (λ (s : Served). one_if (offers s.asked.request)) x.worker.served (each j x at) in
       omega arith)
       (let a = (c.accounts p.j p.worker p.at).draws in
       let k = sum_below (λ (s : Served). one_if (drew_some s)) (λ (s : Served). one_if (offers s.asked.request)) p.worker.served (length p.later) p.served
-      (seam_at p.worker.served p.later p.served p.earlier p.split) (each p.j (with_view (c.view_at p.j) p.worker) (there p.j p.worker p.at))
+      (seam_at p.worker.served p.later p.served p.earlier p.split) (each p.j (with_view (c.view_at p.j) p.worker) (placed p.j p.worker p.at))
       (let z : one_if (drew_some p.served) ≡ 0 = ap one_if (ap has_drawn none) in let y : one_if (offers p.served.asked.request) ≡ 1 = ap one_if offers_body in omega arith) in
       omega arith) in
       let is = offered_is in

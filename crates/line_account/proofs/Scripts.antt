@@ -74,7 +74,7 @@ all_of k (l ∷ lines) =
     let e = least_one l.worker k (offer_of l) in
     omega arith
 
-module _ {X : Type 0} (lines : List Line) where
+module _ (lines : List Line) where
   from : (k : ℕ) (ws : List Worker) → ((i : ℕ) (w : Worker) → get_elem? ws i ≡ some w → in_order w.served ≡ filter (λ l. l.worker == k + i + 1) lines) → sum_by offered_by ws ≤ count_by (above k) lines
   from k [] h = omega arith
   from k (w ∷ ws) h =
