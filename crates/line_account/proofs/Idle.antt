@@ -78,19 +78,23 @@ module _ {X : Type 0} (r : Run X) where
   new_seen (suc count) from zero v e = sym (ap View.seen (some-injective (new_view r.setting from) v e))
   new_seen (suc count) from (suc i) v e = new_seen count (from + 1) i v e
 
-  pub idle_closed : (s : State X) → Sound r.setting s → s.views ≡ new_views r.setting 0 r.setting.passes → Closed r (idle_workers r.setting.passes)
-  idle_closed s so is = record {
-    state = s;
-    sound = so;
-    halted = record {
-      short = λ i j l u v z au av az a e many number four stood shown named.
-          absurd (none_published r.setting.anchors a (version_of e) many (subst (λ (y : List Sight). Contains y (Published a (version_of e) many)) (new_seen r.setting.passes 0 j v (ap (λ y. get_elem? y j) (sym is) ∙ av)) shown));
-    };
-    view_at = λ j. new_view r.setting j;
-    index = λ j. j;
-    at = λ j w e. ap (λ l. get_elem? l j) is ∙ new_at 0 r.setting.passes j w e ∙ ap (λ n. some (new_view r.setting n)) (let z : 0 + j ≡ j = omega arith in z);
-    apart = λ j l w x e g h. h;
-    count = idle_count r.setting.passes;
-    passes = λ j w e. refl;
-    accounts = λ j w e. subst (λ (l : List Served). Account r (new_view r.setting j) l true) (served_none r.setting.passes j w e) (new_account j);
-  }
+  pub idle_closed : (s : State X) → Sound r.setting s → s.views ≡ new_views r.setting 0 r.setting.passes
+      → (c : Closed r (idle_workers r.setting.passes)) × ((j : ℕ) → c.view_at j ≡ new_view r.setting j)
+  idle_closed s so is = (
+    record {
+      state = s;
+      sound = so;
+      halted = record {
+        short = λ i j l u v z au av az a e many number four stood shown named.
+            absurd (none_published r.setting.anchors a (version_of e) many (subst (λ (y : List Sight). Contains y (Published a (version_of e) many)) (new_seen r.setting.passes 0 j v (ap (λ y. get_elem? y j) (sym is) ∙ av)) shown));
+      };
+      view_at = λ j. new_view r.setting j;
+      index = λ j. j;
+      at = λ j w e. ap (λ l. get_elem? l j) is ∙ new_at 0 r.setting.passes j w e ∙ ap (λ n. some (new_view r.setting n)) (let z : 0 + j ≡ j = omega arith in z);
+      apart = λ j l w x e g h. h;
+      count = idle_count r.setting.passes;
+      passes = λ j w e. refl;
+      accounts = λ j w e. subst (λ (l : List Served). Account r (new_view r.setting j) l true) (served_none r.setting.passes j w e) (new_account j);
+    },
+    λ j. refl,
+  )

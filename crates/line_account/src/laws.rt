@@ -313,10 +313,11 @@ pub fn scripts_bound_what_is_offered<X>()
         → LineIn crew (λ earlier s. s.answer ≡ Answer.Spent n) → n < opening_counter r.setting + offering lines }
 {}
 
-/// Workers of a store that was just opened, and who served nothing, have accounts and a closing.
+/// Workers of a store that was just opened, and who served nothing, have accounts and a closing, each at the view of its new
+/// pass.
 pub fn idle_workers_are_closed<X>()
     ensures { (r : Run X) (s : State X) → Sound r.setting s → s.views ≡ new_views r.setting 0 r.setting.passes
-        → Closed r (idle_workers r.setting.passes) }
+        → (c : Closed r (idle_workers r.setting.passes)) × ((j : ℕ) → c.view_at j ≡ new_view r.setting j) }
 {}
 
 /// What steps of a pass add is kept: it knows what it knew, its draws add up, and a deed is one of before or
