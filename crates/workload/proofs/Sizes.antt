@@ -1,6 +1,6 @@
 -- Which URLs the lines of a benchmark name, how long they and the bodies are, and how many lines there are.
 use Rattle.std.proofs.Common.{◌≡◌, ℕ, ◌+◌, ◌*◌, ◌/◌, ◌%◌, ◌<◌, ◌≤◌, List, length, Bool, true, false, nat_lt, ◌==◌, refl, arith, ap, sym, ◌∙◌}
-use Rattle.std.specs.Prelude.{Contains, Option, Some, None, if◌then◌else◌, slice_index}
+use Rattle.std.specs.Prelude.{Contains, Some, if◌then◌else◌, slice_index}
 use Rattle.std.proofs.Math.Nat.{mul-le-mul_left}
 use Rattle.store_key.specs.Key.{key_of}
 use Rattle.store_key.specs.Anchor.{anchor_of}
@@ -11,7 +11,7 @@ use Rattle.script_text.specs.declared.line.Line.{Line}
 use Rattle.script_text.specs.declared.request.Request.{Request}
 use Rattle.script_text.specs.declared.request.Request.TheVariants.{Get, Put, Save, Purge}
 use Rattle.workload.specs.declared.shares.Share.{Share}
-use Rattle.workload.specs.Requests.{IsSmall, asked, body_of, request_of}
+use Rattle.workload.specs.Requests.{IsSmall, body_of, request_of}
 use Rattle.workload.specs.Shares.{shares_of}
 use Rattle.workload.specs.Script.{bench_lines, line_of, turns_of}
 use Rattle.workload.specs.Urls.{home_of, url_of}
