@@ -1,7 +1,8 @@
 -- The lines of a benchmark fit.
-use Rattle.std.proofs.Common.{◌≡◌, ◌∙◌, ℕ, zero, suc, ◌+◌, ◌-◌, ◌*◌, ◌/◌, ◌<◌, ◌≤◌, List, [], ◌∷◌, length, map, get_or, sum_by, refl, sym, ap, arith, Bool, true, false}
-use Rattle.std.specs.Prelude.{All, Contains, Some, ◌==◌, min, max, nat_lt, count_by, if◌then◌else◌}
+use Rattle.std.proofs.Common.{◌≡◌, ℕ, zero, suc, ◌+◌, ◌*◌, ◌≤◌, List, [], ◌∷◌, length, map, get_or, sum_by, refl, ap, arith, Bool, true, false}
+use Rattle.std.specs.Prelude.{All, Contains, ◌==◌, min, max, nat_lt, if◌then◌else◌}
 use Rattle.std.specs.List.{range_with_len}
+use Rattle.std.proofs.Math.Nat.{mul-le-mul}
 use Rattle.std.proofs.lemmas.List.Elements.{All-contains_itself, All-from_get_or, All-head, All-tail, All-weaker}
 use Rattle.std.proofs.lemmas.List.FromFn.{length-map-range_with_len, length-range_with_len}
 use Rattle.std.proofs.lemmas.List.Sums.{count_by-le-length, sum_by-le}
@@ -14,8 +15,6 @@ use Rattle.script_text.specs.declared.body.Body.TheVariants.{Made, Text}
 use Rattle.script_text.specs.declared.line.Line.{Line}
 use Rattle.script_text.specs.declared.request.Request.{Request}
 use Rattle.script_text.specs.declared.request.Request.TheVariants.{Begin, Put, Save}
-use Rattle.plain_model.specs.declared.entry.Place.{Place}
-use Rattle.plain_model.specs.declared.store.Setting.{Setting}
 use Rattle.plain_model.specs.Place.{nothing}
 use Rattle.plain_model.specs.Store.{meta_size, place_at, published}
 use Rattle.plain_model.specs.Slots.{held, limit}
@@ -59,7 +58,8 @@ most_of workers anchor [] all = omega arith
 most_of workers anchor (line ∷ lines) all =
     let one = need_of workers anchor line.request (All-head (λ (l : Line). IsSmall l.request) line lines all) in
     let rest = most_of workers anchor lines (All-tail (λ (l : Line). IsSmall l.request) line lines all) in
-    omega (arith, one, rest)
+    let most : max (need_at (setting_for workers) anchor line.request) (most_needed (setting_for workers) anchor lines) ≤ 3 = omega (arith, one, rest) in
+    most
 
 -- a store that was never written holds nothing
 nothing_there : (i n a : ℕ) → get_or (map (λ (b : ℕ). nothing) (range_with_len i n)) a nothing ≡ nothing
@@ -79,7 +79,8 @@ module _ (seed workers count : ℕ) where
     three_held anchor =
         let none = none_held workers anchor in
         let most = most_of workers anchor lines (All-weaker (Contains lines) (λ line. IsSmall line.request) small lines (All-contains_itself lines)) in
-        omega (arith, none, most)
+        let both : max (held 472 (place_at (store_for workers) anchor)) (most_needed (setting_for workers) anchor lines) ≤ 3 = omega (arith, none, most) in
+        both
 
     sum_small : sum_by (most_held (setting_for workers) lines (store_for workers)) (range_with_len 0 (16 * workers)) ≤ 64 * workers
     sum_small =
@@ -93,5 +94,6 @@ module _ (seed workers count : ℕ) where
       slots = sum_small;
       versions =
           (let offered = count_by-le-length (λ (line : Line). offers_body line.request) lines in
-          omega (arith, offered));
+          let most : count * workers ≤ 10000 * 32 = mul-le-mul short few in
+          omega (arith, offered, least, most));
     }

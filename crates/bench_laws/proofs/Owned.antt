@@ -1,7 +1,6 @@
 -- Each line of a benchmark is private to its worker.
-use Rattle.std.proofs.Common.{◌≡◌, ◌∙◌, ℕ, suc, ◌+◌, ◌*◌, ◌/◌, ◌<◌, ◌≤◌, List, [], ◌∷◌, length, map, refl, sym, ap, arith, Bool, true, false, cond}
-use Rattle.std.specs.Prelude.{◌⊎◌, inl, ◌==◌, ◌||◌, not, All, Contains, Some, filter}
-use Rattle.std.specs.List.{list_all}
+use Rattle.std.proofs.Common.{◌≡◌, inl, ◌∙◌, ℕ, ◌+◌, ◌*◌, ◌/◌, List, [], ◌∷◌, length, map, refl, sym, ap, arith, Bool, true, false}
+use Rattle.std.specs.Prelude.{◌==◌, ◌||◌, not, All, Contains, Some, filter}
 use Rattle.std.proofs.lemmas.Bool.{eq-eqb, eqb-true}
 use Rattle.std.proofs.lemmas.List.Elements.{All-contains, All-contains_itself, All-filter, All-head, All-tail, All-weaker, filter_passes}
 use Rattle.std.proofs.lemmas.List.Sums.{list_all-from_AllPass}
@@ -33,12 +32,12 @@ record IsWhole (s : Setting) (request : Request) : Type 0 where
   on : IsOnTab request
   opens_none : (tab : ℕ) → takes tab request ≡ false
 
-whole : (s : Setting) (request : Request) → NamesUrl request → IsWhole s request
-whole s (Get url) is = record { url = url; named = refl; at = λ anchors tabs. refl; only = λ anchors. refl; on = tt; opens_none = λ tab. refl }
-whole s (Put url body) is = record { url = url; named = refl; at = λ anchors tabs. refl; only = λ anchors. refl; on = tt; opens_none = λ tab. refl }
-whole s (Save url body) is = record { url = url; named = refl; at = λ anchors tabs. refl; only = λ anchors. refl; on = tt; opens_none = λ tab. refl }
-whole s (Purge url) is = record { url = url; named = refl; at = λ anchors tabs. refl; only = λ anchors. refl; on = tt; opens_none = λ tab. refl }
-whole s _ is = absurd is
+named_is_whole : (s : Setting) (request : Request) → NamesUrl request → IsWhole s request
+named_is_whole s (Get url) is = record { url = url; named = refl; at = λ anchors tabs. refl; only = λ anchors. refl; on = tt; opens_none = λ tab. refl }
+named_is_whole s (Put url body) is = record { url = url; named = refl; at = λ anchors tabs. refl; only = λ anchors. refl; on = tt; opens_none = λ tab. refl }
+named_is_whole s (Save url body) is = record { url = url; named = refl; at = λ anchors tabs. refl; only = λ anchors. refl; on = tt; opens_none = λ tab. refl }
+named_is_whole s (Purge url) is = record { url = url; named = refl; at = λ anchors tabs. refl; only = λ anchors. refl; on = tt; opens_none = λ tab. refl }
+named_is_whole s _ is = absurd is
 
 -- a line that names a URL of one of its worker's sixteen anchors
 record IsOwn (s : Setting) (line : Line) : Type 0 where
@@ -89,7 +88,7 @@ answers_same these (line ∷ lines) (a ∷ given) all same =
     here ∙ ap (λ (g : List Answer). a ∷ g) (answers_same these lines given (All-tail (λ l. these l ≡ true) line lines all) (omega (arith, same)))
 
 -- each line of a benchmark is such a line
-module _ (seed workers count : ℕ) (few : workers ≤ 32) where
+module _ (seed workers count : ℕ) where
   abbrev lines : List Line
   lines = bench_lines seed workers count
 
@@ -100,7 +99,7 @@ module _ (seed workers count : ℕ) (few : workers ≤ 32) where
       (homes : (line : Line) (url : List ℕ) → Contains lines line → url_in line.request ≡ Some url → line.worker ≡ 1 + anchor_of (key_of url) (16 * workers) / 16) where
     own : (line : Line) → Contains lines line → IsOwn s line
     own line among =
-        let it : IsWhole s line.request = whole s line.request (named line among) in
+        let it : IsWhole s line.request = named_is_whole s line.request (named line among) in
         record { whole = it; home = homes line it.url among it.named }
 
     all_own : All (IsOwn s) lines
@@ -144,10 +143,10 @@ module _ (seed workers count : ℕ) (few : workers ≤ 32) where
     }
 
     opens_none : (line : Line) → Contains lines line → (tab : ℕ) → takes tab line.request ≡ true → ⊥
-    opens_none line among tab opens = let k : false ≡ true = sym ((whole s line.request (named line among)).opens_none tab) ∙ opens in cc
+    opens_none line among tab opens = let k : false ≡ true = sym ((named_is_whole s line.request (named line among)).opens_none tab) ∙ opens in cc
 
     pub tabs_apart : (worker : ℕ) → TabsApart s lines worker
     tabs_apart worker = record {
-      tabs = λ line among. (whole s line.request (named line (in_all worker line among))).on;
+      tabs = λ line among. (named_is_whole s line.request (named line (in_all worker line among))).on;
       apart = λ tab. inl (λ line among opens. absurd (opens_none line (in_all worker line among) tab opens));
     }
