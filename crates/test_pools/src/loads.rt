@@ -1,6 +1,7 @@
 use crate::rows::parted;
 use script_text::{Body, Line, Request, Script};
 use std::alloc::Global;
+use store_key::{anchor_of, key_of};
 use workload::bench_script;
 
 /// A line as a text: its worker, its number, the name of its request, the URL, and the body's length and shift,
@@ -98,5 +99,59 @@ fn scripts_have_a_line_for_each_round_and_worker(rt: HostRuntime) {
     assert_eq!(rt; COUNTS.lines().count(), 3);
     for row in COUNTS.lines() {
         assert!(rt; has_count(rt.alloc(), row) == Some(true), "{row}");
+    }
+}
+
+/// The URL that a line of a benchmark names.
+fn url_of(line: &Line) -> Option<&[u8]> {
+    match &line.request {
+        Request::Get { url }
+        | Request::Put { url, .. }
+        | Request::Save { url, .. }
+        | Request::Purge { url } => Some(url.as_slice()),
+        _ => None,
+    }
+}
+
+/// The anchor of a line's URL, if it is one of the sixteen of the line's worker.
+fn own_anchor(line: &Line, anchors: u32) -> Option<u32> {
+    if anchors == 0 {
+        return None;
+    }
+    let anchor = anchor_of(&key_of(url_of(line)?), anchors);
+    if anchor / 16 + 1 == line.worker {
+        Some(anchor)
+    } else {
+        None
+    }
+}
+
+/// Scripts, and the sum of the anchors of all lines, by a program in another language.
+const ANCHORS: &str = "\
+7 1 300 -> 2240
+7 2 300 -> 9324
+18446744073709551615 5 100 -> 19809
+7 32 20 -> 163575";
+
+/// Whether each line of a row's script is for the worker that has its URL's anchor, and the anchors have the sum of the row.
+fn has_anchors(alloc: Global, row: &str) -> Option<bool> {
+    let (words, sum) = parted(row, " -> ")?;
+    let mut left: u32 = sum.parse().ok()?;
+    let (_, rest) = parted(words, " ")?;
+    let (workers, _) = parted(rest, " ")?;
+    let workers: u32 = workers.parse().ok()?;
+    let anchors = workers.checked_mul(16)?;
+    let script = script_of(alloc, words)?;
+    for line in script.lines.as_slice() {
+        left = left.checked_sub(own_anchor(line, anchors)?)?;
+    }
+    Some(left == 0)
+}
+
+#[test]
+fn lines_are_for_the_workers_of_their_anchors(rt: HostRuntime) {
+    assert_eq!(rt; ANCHORS.lines().count(), 4);
+    for row in ANCHORS.lines() {
+        assert!(rt; has_anchors(rt.alloc(), row) == Some(true), "{row}");
     }
 }

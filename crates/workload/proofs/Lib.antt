@@ -7,4 +7,5 @@ pub mod Rounds
 pub mod Asked
 pub mod Named
 pub mod Served
+pub mod Sizes
 pub mod Whole

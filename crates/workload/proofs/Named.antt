@@ -1,5 +1,5 @@
 -- The URLs of a benchmark are URLs.
-use Rattle.std.proofs.Common.{◌≡◌, ◌≢◌, ℕ, ◌+◌, ◌%◌, ◌^◌, ◌<◌, Bool, true, ◌&&◌, ltb, List, [], ◌∷◌, ◌++◌, All, codes, decimal, arith, refl, length-append}
+use Rattle.std.proofs.Common.{◌≡◌, ◌≢◌, ℕ, ◌+◌, ◌%◌, ◌^◌, ◌<◌, ◌≤◌, Bool, true, ◌&&◌, ltb, List, [], ◌∷◌, ◌++◌, All, codes, decimal, length, arith, refl, length-append}
 use Rattle.std.proofs.lemmas.Bool.{and_parts, ltb-true}
 use Rattle.std.proofs.lemmas.Fmt.{decimal_by_steps, length-decimal-le}
 use Rattle.std.proofs.lemmas.List.Elements.{All-nil, All-cons, All-append}
@@ -33,6 +33,15 @@ front_named = named_by_test (codes "http://bench/") refl
 
 some_behind : (rest : List ℕ) → codes "http://bench/" ++ rest ≢ []
 some_behind rest e = cc
+
+-- a URL has at most 17 bytes
+pub url_short : (n : ℕ) → n < 10000 → length (url_of n) ≤ 17
+unfolding url_of
+url_short n small =
+    let fits : n < 2 ^ 64 = omega arith in
+    let digits = length-decimal-le 4 n (omega arith) small fits in
+    let long = length-append (codes "http://bench/") (decimal n) in
+    omega (arith, long, digits)
 
 pub url_named : (n : ℕ) → n < 10000 → IsUrl (url_of n)
 unfolding url_of

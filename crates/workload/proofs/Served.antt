@@ -2,7 +2,7 @@
 use Rattle.std.proofs.Common.{◌≡◌, ℕ, zero, suc, ◌+◌, ◌*◌, ◌<◌, ◌≤◌, ◌%◌, List, [], ◌∷◌, ◌++◌, map, length, Bool, true, false, cond, nat_lt, ◌==◌, refl, arith, ap, sym, ◌∙◌, ltb-true}
 use Rattle.std.specs.Prelude.{All, Contains, Some, find, if◌then◌else◌, slice_index}
 use Rattle.std.specs.List.{range_with_len, enumerate_from}
-use Rattle.std.proofs.lemmas.Bool.{eq-eqb, ne_eqb}
+use Rattle.std.proofs.lemmas.Bool.{eq-eqb, eqb-true, ne_eqb}
 use Rattle.std.proofs.lemmas.List.FromFn.{get_or-range_with_len, length-range_with_len}
 use mathlib.Core.Option.{some, some-injective, some-ne-none}
 use lib.ListN.{get_elem?}
@@ -20,11 +20,12 @@ use Rattle.workload.proofs.Named.{url_named}
 use Rattle.workload.proofs.Turns.{no_turns, turns_more}
 
 -- a worker that has a URL, and its URLs
-record IsShare (workers : ℕ) (share : Share) : Type 0 where
-  from : 1 ≤ share.worker
-  to : share.worker ≤ workers
-  urls : All (λ n. n < 64 * workers) share.urls
-  some : 0 < length share.urls
+pub record IsShare (workers : ℕ) (share : Share) : Type 0 where
+  pub from : 1 ≤ share.worker
+  pub to : share.worker ≤ workers
+  pub urls : All (λ n. n < 64 * workers) share.urls
+  pub homes : All (λ n. home_of workers n ≡ share.worker) share.urls
+  pub some : 0 < length share.urls
 
 range_within : (from n : ℕ) → All (λ w. (from ≤ w) × (w < from + n)) (range_with_len from n)
 range_within from n = All-from_get_or (λ w. (from ≤ w) × (w < from + n)) (range_with_len from n) 0
@@ -35,17 +36,24 @@ unfolding urls_of
 urls_within workers worker = All-filter (λ n. home_of workers n == worker) (λ n. n < 64 * workers) (range_with_len 0 (64 * workers))
     (All-weaker (λ n. (0 ≤ n) × (n < 0 + 64 * workers)) (λ n. n < 64 * workers) (λ n is. omega (arith, is.1)) (range_with_len 0 (64 * workers)) (range_within 0 (64 * workers)))
 
+urls_at_home : (workers worker : ℕ) → All (λ n. home_of workers n ≡ worker) (urls_of workers worker)
+unfolding urls_of
+urls_at_home workers worker =
+    All-weaker (λ n. (home_of workers n == worker) ≡ true) (λ n. home_of workers n ≡ worker) (λ n test. eqb-true (home_of workers n) worker test) (urls_of workers worker)
+    (filter_passes (λ n. home_of workers n == worker) (range_with_len 0 (64 * workers)))
+
 record MayBeShare (workers : ℕ) (share : Share) : Type 0 where
   from : 1 ≤ share.worker
   to : share.worker ≤ workers
   urls : All (λ n. n < 64 * workers) share.urls
+  homes : All (λ n. home_of workers n ≡ share.worker) share.urls
 
 may_be_shares : (workers : ℕ) → All (MayBeShare workers) (shares_of workers)
 unfolding shares_of
 may_be_shares workers = All-filter has_url (MayBeShare workers) (map (share_of workers) (range_with_len 1 workers))
     (All-map (MayBeShare workers) (share_of workers) (range_with_len 1 workers)
     (All-weaker (λ w. (1 ≤ w) × (w < 1 + workers)) (λ w. MayBeShare workers (share_of workers w))
-    (λ w is. record { from = is.0; to = omega (arith, is.1); urls = urls_within workers w }) (range_with_len 1 workers) (range_within 1 workers)))
+    (λ w is. record { from = is.0; to = omega (arith, is.1); urls = urls_within workers w; homes = urls_at_home workers w }) (range_with_len 1 workers) (range_within 1 workers)))
 
 have_urls : (workers : ℕ) → All (λ share. has_url share ≡ true) (shares_of workers)
 unfolding shares_of
@@ -55,9 +63,9 @@ are_shares : (workers : ℕ) → All (IsShare workers) (shares_of workers)
 are_shares workers k d lt =
     let may = may_be_shares workers k d lt in
     let test = have_urls workers k d lt in
-    record { from = may.from; to = may.to; urls = may.urls; some = ltb-true _ _ test }
+    record { from = may.from; to = may.to; urls = may.urls; homes = may.homes; some = ltb-true _ _ test }
 
-turns_are_shares : (workers count : ℕ) → All (IsShare workers) (turns_of workers count)
+pub turns_are_shares : (workers count : ℕ) → All (IsShare workers) (turns_of workers count)
 turns_are_shares workers zero = All-same (IsShare workers) (turns_of workers zero) [] (no_turns workers) (All-nil (IsShare workers))
 turns_are_shares workers (suc count) =
     let more : suc count ≡ count + 1 = omega arith in
@@ -73,13 +81,13 @@ placed P n [] all = All-nil (λ (turn : ℕ × Share). P turn.1)
 placed P n (x ∷ xs) all = All-cons (λ (turn : ℕ × Share). P turn.1) (n, x) (enumerate_from (n + 1) xs) (All-head P x xs all) (placed P (n + 1) xs (All-tail P x xs all))
 
 -- what the line of a share is at each place, each line of the benchmark is
-each_line : (P : Share → Type 0) (Q : Line → Type 0) (seed : ℕ) (turns : List Share) → ((place : ℕ) (share : Share) → P share → Q (line_of seed place share)) → All P turns → (line : Line) → Contains (lines_of seed turns) line → Q line
+pub each_line : (P : Share → Type 0) (Q : Line → Type 0) (seed : ℕ) (turns : List Share) → ((place : ℕ) (share : Share) → P share → Q (line_of seed place share)) → All P turns → (line : Line) → Contains (lines_of seed turns) line → Q line
 unfolding lines_of
 each_line P Q seed turns is all line among =
     All-contains Q (map (line_at seed) (enumerate_from 0 turns)) line
     (All-map Q (line_at seed) (enumerate_from 0 turns) (All-weaker (λ (turn : ℕ × Share). P turn.1) (λ (turn : ℕ × Share). Q (line_at seed turn)) (λ turn h. is turn.0 turn.1 h) (enumerate_from 0 turns) (placed P 0 turns all))) among
 
-worker_is : (seed place : ℕ) (share : Share) → (line_of seed place share).worker ≡ share.worker
+pub worker_is : (seed place : ℕ) (share : Share) → (line_of seed place share).worker ≡ share.worker
 unfolding line_of
 worker_is seed place share = refl
 

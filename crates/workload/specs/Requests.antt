@@ -1,10 +1,11 @@
 -- What a request asks for, by the three numbers that are drawn for it.
-use Rattle.std.specs.Prelude.{ℕ, ◌%◌, ◌==◌, nat_lt, List, length, slice_index, if◌then◌else◌}
+use Rattle.std.specs.Prelude.{◌≡◌, ℕ, ◌≤◌, ◌%◌, ◌==◌, nat_lt, List, length, slice_index, Some, if◌then◌else◌}
 use Rattle.store_key.specs.Url.{IsUrl}
 use Rattle.script_text.specs.declared.body.Body.{Body}
 use Rattle.script_text.specs.declared.body.Body.TheVariants.{Made}
 use Rattle.script_text.specs.declared.request.Request.{Request}
 use Rattle.script_text.specs.declared.request.Request.TheVariants.{Get, Put, Save, Purge}
+use Rattle.script_text.specs.Requests.{url_in, offered_size}
 use Rattle.workload.specs.Urls.{url_of}
 
 -- kinds 0 to 3 read, 4 and 5 store, 6 stores for good, and 7 purges
@@ -27,3 +28,10 @@ NamesUrl (Put url body) = IsUrl url
 NamesUrl (Save url body) = IsUrl url
 NamesUrl (Purge url) = IsUrl url
 NamesUrl _ = ⊥
+
+-- the request's URL and the body that it offers are small
+pub record IsSmall (request : Request) : Type 0 where
+  -- A URL that it names has at most 17 bytes,
+  pub url : (url : List ℕ) → url_in request ≡ Some url → length url ≤ 17
+  -- and a body that it offers at most 1,300.
+  pub body : offered_size request ≤ 1300

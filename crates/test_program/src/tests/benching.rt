@@ -99,6 +99,27 @@ has db 64
     )
 }
 
+/// Ten thousand requests of four workers, over ten fresh volumes. Whichever worker comes first, no two share an anchor.
+#[test]
+fn four_workers_print_the_same_line(rt: HostRuntime) -> Result<(), Fail> {
+    for turn in 0..10u32 {
+        let _ = turn;
+        plays(
+            &rt,
+            rt.alloc(),
+            "\
+volume
+
+bench db 7 4 2500
+> bench requests=10000 hits=1150 misses=3804 stored=3797 purged=285 none=964 other=0 bytes=755636
+
+has db 256
+",
+        )?;
+    }
+    Ok(())
+}
+
 /// The first refusal in order is told, nothing is printed, and no file is made.
 #[test]
 fn a_benchmark_is_refused_by_the_first_cause(rt: HostRuntime) -> Result<(), Fail> {
