@@ -10,4 +10,6 @@ mod peeks;
 #[cfg(test)]
 mod rows;
 #[cfg(test)]
+mod together;
+#[cfg(test)]
 mod volumes;
