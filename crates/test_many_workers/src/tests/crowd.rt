@@ -73,10 +73,11 @@ fn workers_crowd_at_32_anchors(rt: HostRuntime) -> Result<(), Fail> {
     Ok(())
 }
 
-/// Forty slots do not suffice for 32 anchors, so entries give way.
+/// Sixteen slots do not suffice for 16 anchors, so entries give way, and where none may a line is answered FULL.
 #[test]
 fn workers_crowd_in_a_small_file(rt: HostRuntime) -> Result<(), Fail> {
-    let (_, gave_way) = crowds(&rt, rt.alloc(), 40, 32, 64)?;
+    let (full, gave_way) = crowds(&rt, rt.alloc(), 16, 16, 32)?;
+    assert!(rt; full > 0);
     assert!(rt; gave_way > 0);
     Ok(())
 }
