@@ -1,2 +1,6 @@
 mod Growing
+mod Doomed
 mod Answering
+mod Following
+mod LastUser
+mod Blanking
