@@ -10,6 +10,4 @@ mod peeks;
 #[cfg(test)]
 mod rows;
 #[cfg(test)]
-mod together;
-#[cfg(test)]
 mod volumes;

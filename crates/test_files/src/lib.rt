@@ -4,10 +4,6 @@
 #[cfg(test)]
 mod files;
 #[cfg(test)]
-mod made;
-#[cfg(test)]
 mod made_system;
 #[cfg(test)]
 mod signals;
-#[cfg(test)]
-mod together;
