@@ -53,7 +53,7 @@ fn crowds<R: Abort + Threads + Wait + Sync>(
 
 #[test]
 fn workers_crowd_at_one_anchor(rt: HostRuntime) -> Result<(), Fail> {
-    for turn in 0..4u32 {
+    for turn in 0..2u32 {
         let _ = turn;
         let (full, gave_way) = crowds(&rt, rt.alloc(), 512, 1, 2)?;
         assert_eq!(rt; full, 0);
@@ -64,7 +64,7 @@ fn workers_crowd_at_one_anchor(rt: HostRuntime) -> Result<(), Fail> {
 
 #[test]
 fn workers_crowd_at_32_anchors(rt: HostRuntime) -> Result<(), Fail> {
-    for turn in 0..4u32 {
+    for turn in 0..2u32 {
         let _ = turn;
         let (full, gave_way) = crowds(&rt, rt.alloc(), 512, 32, 64)?;
         assert_eq!(rt; full, 0);
