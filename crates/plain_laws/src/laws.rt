@@ -19,8 +19,8 @@ ghost use Rattle.plain_laws.specs.Begun.{begun, RiseAbove};
 ghost use Rattle.plain_laws.specs.Hit.{IsHit};
 ghost use Rattle.plain_laws.specs.Holding.{HoldsItsSlots, slots_held};
 ghost use Rattle.plain_laws.specs.Fitting.{Fits, IsAtRest, RunsInRoom};
-ghost use Rattle.plain_laws.specs.Renaming.{CountsVersions};
-ghost use Rattle.plain_laws.specs.Private.{TabsApart, AnswersAlone};
+ghost use Rattle.plain_laws.specs.Renaming.{CountsVersions, IsRenaming, renamed};
+ghost use Rattle.plain_laws.specs.Private.{TabsApart, AnswersAlone, IsServedAlone, answers_to, is_private, private_lines};
 ghost use Rattle.plain_laws.specs.Opened.{FitsFile};
 
 /// A version is begun by one line: those that lines begin rise, and are above all that were given out
@@ -78,6 +78,18 @@ pub fn private_lines_are_answered_alone()
         → Fits s (lines_for worker script) p → TabsApart s script worker → AnswersAlone s script worker p }
     ensures tabs { (workers : ℕ) (text : List ℕ) (script : List Line) → IsScript workers text script
         → (worker : ℕ) (line : Line) → Contains (lines_for worker script) line → IsOnTab line.request }
+{}
+
+/// A worker is served alone where the answers that it was given to its private lines are the plain store's to
+/// these lines by themselves, but for versions: that the versions which they begin stand for one another in turn
+/// follows (`told`). The versions that a worker's private lines begin then rise, and are above all that were given
+/// out before (`rise`).
+pub fn workers_are_served_alone()
+    ensures told { (s : Setting) (script : List Line) (worker : ℕ) (p : Plain) (given : List Answer) (rename : ℕ → ℕ) → IsRenaming p.counter rename
+        → answers_to (is_private s script worker) (lines_for worker script) given ≡ map (renamed rename) (answers s script (private_lines s script worker) p)
+        → IsServedAlone s script worker p given }
+    ensures rise { (s : Setting) (script : List Line) (worker : ℕ) (p : Plain) (given : List Answer) → IsServedAlone s script worker p given
+        → RiseAbove p.counter (begun (private_lines s script worker) (answers_to (is_private s script worker) (lines_for worker script) given)) }
 {}
 
 /// A store that was never written, and one that is opened on entries of a file, are at rest and have a
