@@ -45,6 +45,7 @@ use Rattle.plain_runs.proofs.Frames.{knows_same}
 use Rattle.plain_runs.proofs.Freeing.{FewReaders}
 use Rattle.plain_runs.proofs.OwnAnchors.{mine_lone, owns_lone}
 use Rattle.plain_runs.proofs.ServedLines.{IsAs}
+use Rattle.plain_runs.proofs.ShowingOthers.{within_whole}
 use Rattle.plain_runs.proofs.OwnVersions.{same_answer}
 use Rattle.plain_runs.proofs.PlainWords.{idle_there, readers_fit, vacant_there, word_there}
 
@@ -254,4 +255,4 @@ module _ {C O : Type 0} (tells : Bool) (state : C → CellState) (offers : O →
       → IsAs tells state offers s given q t (begin (setting_of (basis tells state offers s)) t url (bytes_of body) offer plain)
   begins_as t offer url body p q given plain below shows free offered typed hand h = let r = begins_right tells state offers s (λ v. v) lone p plain shows t free below offer url body offered given q refl h typed hand in
       let e : begin (setting_of (basis tells state offers s)) t url (bytes_of body) offer plain ≡ begin_free (setting_of (basis tells state offers s)) t url (bytes_of body) offer plain = rw free refl in
-      subst (IsAs tells state offers s given q t) (sym e) record { answered = r.answer_is ∙ same_answer _; shows = record { knows = r.knows; hand = r.hand; tab = r.tab } }
+      subst (IsAs tells state offers s given q t) (sym e) record { answered = r.answer_is ∙ same_answer _; shows = record { knows = r.knows; hand = r.hand; tab = r.tab; within = within_whole (tab_at (begin_free (setting_of (basis tells state offers s)) t url (bytes_of body) offer plain).after t) } }

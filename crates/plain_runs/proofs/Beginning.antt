@@ -50,10 +50,10 @@ use Rattle.slice_chain.specs.Freeing.{Freed}
 use Rattle.slice_chain.specs.Names.{Named}
 use Rattle.rock_writer.specs.Beginning.{Overtaken, Took, TookAnchor, WasIdle, WasVacant}
 use Rattle.rock_writer.proofs.Begun.{looked_last, took_idle, took_vacant}
-use Rattle.plain_runs.specs.Words.{HasChain, IsLone, IsOfOffer, Knows, ShowsAt, ShowsEntryIf, no_guests, setting_of}
+use Rattle.plain_runs.specs.Words.{HasChain, IsLone, IsOfOffer, Knows, Lot, ShowsAt, ShowsEntryIf, no_guests, setting_of, whole_lot}
 use Rattle.plain_runs.proofs.Frames.{SameBut, knows_same, shows_elsewhere, step_same}
-use Rattle.plain_runs.proofs.Freeing.{FewReaders, KnowsBut, SameElse, but_moved, but_step, same_else, freed_but, knows_all, knows_but, same_freer}
-use Rattle.plain_runs.proofs.OwnAnchors.{OwnsAnchor, mine_lone, pass_stays}
+use Rattle.plain_runs.proofs.Freeing.{FewReaders, KnowsBut, KnowsLotBut, SameElse, but_moved, but_step, same_else, freed_but, knows_all, knows_but, same_freer}
+use Rattle.plain_runs.proofs.OwnAnchors.{OwnsAnchor, OwnsLot, lot_lone, mine_lone, pass_stays}
 use Rattle.plain_runs.proofs.PlainWords.{idle_there, readers_put, readers_there, vacant_there}
 use Rattle.plain_runs.proofs.QuietSteps.{step_quiet}
 
@@ -161,7 +161,7 @@ module _ (g : Ground (List ℕ)) (lone : IsLone g) (rename : ℕ → ℕ) where
     pub took_drew : DrewNext g lone rename took.drawn version p no_guests
     took_drew = drew_next g lone rename took.seen took.drawn version p no_guests (knows_same g rename v took.seen p no_guests h (looked_same g v took.seen a n (mine_lone g lone v (Anchor a)) took.looks)) took.drew
 
-    found_last : n ≡ last_find a took.drawn.trail
+    pub found_last : n ≡ last_find a took.drawn.trail
     found_last = sym (same_find g took.seen took.drawn version took.drew a ∙ looked_last g v took.seen a n took.looks)
 
     -- what stands there now
@@ -210,8 +210,8 @@ module _ (g : Ground (List ℕ)) where
         of_one q e (inl x) = no_link x.0 (ap (index g.setting) (sym x.1) ∙ e)
         of_one q e (inr x) = false≢true (sym (ap (λ (f : Freer (List ℕ)). f.is_freeing) freer_is) ∙ x.0)
 
-    pub freed_else : IsLone g → (rename : ℕ → ℕ) (p : Plain) → FewReaders p no_guests → KnowsBut g rename v p no_guests a → KnowsBut g rename w p no_guests a
-    freed_else lone rename p few h = freed_but g rename lone v w p no_guests a few freed (ap (λ (f : Freer (List ℕ)). f.anchor) freer_is) h
+    pub freed_else : {lot : Lot} → OwnsLot g lot v.pass → IsPass v → (rename : ℕ → ℕ) (p : Plain) → FewReaders p no_guests → KnowsLotBut g rename lot v p no_guests a → KnowsLotBut g rename lot w p no_guests a
+    freed_else owns nine rename p few h = freed_but g rename v w nine freed p no_guests a few owns (ap (λ (f : Freer (List ℕ)). f.anchor) freer_is) h
 
 module _ (g : Ground (List ℕ)) (rename : ℕ → ℕ) where
   -- The entry is named.
@@ -395,11 +395,17 @@ module _ (g : Ground (List ℕ)) (lone : IsLone g) (rename : ℕ → ℕ) (t a n
       taken_but : KnowsBut g rename took.taken (taken_by t a e p) no_guests a
       taken_but = took_but g lone rename t a n version v took.taken took.took p h e free below
 
+      taken_long : is_idle n ≡ true → IsPass took.taken
+      taken_long idle = ap (λ (z : View (List ℕ)). length z.tabs) took.took.takes.leaves
+          ∙ (let z = eq-eqb n (last_find a took.took.drawn.trail) (found_last g lone rename t a n version v took.taken took.took p h) in rw (z, idle) refl)
+          ∙ (length-set _ t (TabOf.Writing (writer_of a version)) ∙ (length-set took.took.drawn.tabs inner _ ∙ took.took.takes.may.pass))
+
       of_idle : (idle : is_idle n ≡ true) → Freed g took.taken w → IsTaken e
       of_idle idle f = let k = took_idle g t a n version v took.taken nine writes_below inner_free took.took idle in record {
         word = freed_word g took.taken w f a n (chain_found took.took.takes.state (Take t a version)) k.1 (mine_lone g lone took.taken (Anchor a)) lt ∙ taken_word;
         tab = ap (λ (xs : List (TabOf (List ℕ))). get_or xs t TabOf.Free) f.tabs ∙ get_or-set_other took.taken.tabs inner t TabOf.Free TabOf.Free (λ z. let b = writes_below in omega arith) ∙ k.0;
-        but = freed_else g took.taken w f a n (chain_found took.took.takes.state (Take t a version)) k.1 lone rename (taken_by t a e p) (few_after e) taken_but;
+        but = freed_else g took.taken w f a n (chain_found took.took.takes.state (Take t a version)) k.1 (lot_lone g lone whole_lot took.taken.pass)
+            (taken_long idle) rename (taken_by t a e p) (few_after e) taken_but;
       }
 
       of_cleared : WasVacant g t a v n took.taken w ⊎ WasIdle g t a v n took.taken w → IsTaken e

@@ -57,14 +57,14 @@ use Rattle.store_rule.specs.declared.store.Store.{Store}
 use Rattle.tab_states.specs.Desks.{draft_at}
 use Rattle.store_rule.specs.Ground.{Ground, Offers, cut_of, url_of}
 use Rattle.store_rule.specs.Passes.{basis, view}
-use Rattle.plain_runs.specs.Words.{IsLone, IsOfOffer, Knows, ShowsAt, ShowsEntry, no_guests, setting_of}
+use Rattle.plain_runs.specs.Words.{IsLone, IsOfOffer, Knows, ShowsAt, ShowsEntry, no_guests, setting_of, whole_lot}
 use Rattle.plain_runs.proofs.Adding.{Grows, body_is, content_is, level_here, writer_there}
 use Rattle.plain_runs.proofs.Flushing.{PieceOut, entry_shown, piece_out, staged, word_staged}
 use Rattle.plain_runs.proofs.Frames.{SameBut, same_weaker}
 use Rattle.plain_runs.proofs.Freeing.{KnowsBut, knows_but, same_else}
 use Rattle.plain_runs.proofs.Halting.{ended_right, growing_stage, raised_so}
 use Rattle.plain_runs.proofs.PlainWords.{doom_counted, readers_fit}
-use Rattle.plain_runs.proofs.OwnAnchors.{mine_lone, owns_lone, stands_before}
+use Rattle.plain_runs.proofs.OwnAnchors.{lot_lone, mine_lone, owns_lone, stands_before}
 use Rattle.plain_runs.proofs.Published.{Linking, Touched, chain_of_tab, no_anchor, touched_but, touched_linking, touched_names}
 use Rattle.plain_runs.proofs.Growth.{grown_done, grown_not, grown_of}
 use Rattle.plain_runs.proofs.Publishing.{HasGrown, HasRunShort, first_claimed, stays_none}
@@ -220,7 +220,7 @@ module _ {C O : Type 0} (tells : Bool) (state : C → CellState) (offers : O →
       slot = sr.1;
       tabs = hg.stays.tabs;
       hand_is = hg.readied.hand_is;
-      knows = ended_right g lone rename t below Whole from stage.Closed f.linked f.closed (view q) store x y e.anchor f.word refl refl le po.pass (stands_before f.closes) po.tab hg.readied.eight plain_after there but word shown f.closes f.parted;
+      knows = ended_right g rename whole_lot t below Whole from stage.Closed f.linked f.closed (view q) store x y e.anchor f.word (lot_lone g lone whole_lot f.linked.pass) refl refl refl le po.pass (stands_before f.closes) po.tab hg.readied.eight plain_after there but word shown f.closes f.parted;
       free = f.parted.free;
       answered = told_ended rename ended (place_at store e.anchor).version (place_at store e.anchor).doom (f.version ∙ (h.version_is ∙ ap (λ (o : PlaceOf). rename o.version) (sym hg.stays.place)))
           (same_doom (is_doomed ended) (place_at store e.anchor).doom (doom_of (epoch_in (left_by f.linked (Raise t stage.Closed) f.word))) f.doomed doom_is);

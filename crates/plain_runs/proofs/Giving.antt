@@ -57,14 +57,14 @@ use Rattle.store_serve.specs.Adding.{NotAdded, StoppedBelow, taken_on}
 use Rattle.store_serve.specs.Storing.{EndedWhole, NotClosed, NotEnded, left_of}
 use Rattle.store_serve.specs.declared.storing.PutFault.TheVariants.{Begin, Write}
 use Rattle.worker_shelf.specs.Typed.{IsTyped}
-use Rattle.plain_runs.specs.Words.{IsLone, Knows, no_guests, setting_of}
+use Rattle.plain_runs.specs.Words.{IsLone, Knows, no_guests, setting_of, whole_lot}
 use Rattle.plain_runs.specs.Shows.{Shows, ShowsReading, ShowsTab, ShowsWriting}
 use Rattle.plain_runs.proofs.Adding.{Grows, HasAppended, body_is, content_is, took_right}
 use Rattle.plain_runs.proofs.BeginLines.{IsBegun, NotBegun, is_begun, not_begun, put_ends, put_refused}
 use Rattle.plain_runs.proofs.Ending.{HasFinished, finished_right}
 use Rattle.plain_runs.proofs.Halting.{HasHalted, ended_with, halts_right}
-use Rattle.plain_runs.proofs.Reserving.{AreQuiet, IsQuiet, IsReadied, quiet_on}
-use Rattle.plain_runs.proofs.ShowingOthers.{ShowsOn}
+use Rattle.plain_runs.proofs.Reserving.{AreQuiet, IsQuiet, IsReadied, quiet_on, ready_whole}
+use Rattle.plain_runs.proofs.ShowingOthers.{ShowsOn, within_whole}
 use Rattle.plain_runs.proofs.Stopping.{HasGivenUp, HasNotAdded, HasNotFinished, not_added_right, not_finished_right}
 
 -- what settling and closing leave of tabs and of the hand
@@ -98,7 +98,7 @@ module _ {C O : Type 0} (tells : Bool) (state : C → CellState) (offers : O →
   -- The answer is that of this step of the plain store, and the pass shows what it leaves, with the tab.
   pub record IsGiven (a : Answer) (q : Pass C) (made : Step) : Type 0 where
     pub answered : a ≡ renamed rename made.answer
-    pub shows : ShowsOn tells state offers st rename q made.after t
+    pub shows : ShowsOn tells state offers st rename whole_lot q made.after t
 
   given_as : (a : Answer) (q : Pass C) (x y : Step) → x ≡ y → IsGiven a q y → IsGiven a q x
   given_as a q x y e h = subst (IsGiven a q) (sym e) h
@@ -172,11 +172,12 @@ module _ {C O : Type 0} (tells : Bool) (state : C → CellState) (offers : O →
         at = sym w.anchor_is ∙ sym same
 
     -- what an entry that was given up leaves
-    gave_up_so : (q : Pass C) (store : Plain) → store.tabs ≡ p.tabs → HasGivenUp tells state offers st lone rename t q e.anchor store → ShowsOn tells state offers st rename q (close_writer GivenUp t anchor store) t
+    gave_up_so : (q : Pass C) (store : Plain) → store.tabs ≡ p.tabs → HasGivenUp tells state offers st lone rename t q e.anchor store → ShowsOn tells state offers st rename whole_lot q (close_writer GivenUp t anchor store) t
     gave_up_so q store tabs gave = record {
       knows = subst (λ (b : ℕ). Knows g rename (view q) (close_writer GivenUp t b store) no_guests) w.anchor_is gave.knows;
       hand = gave.hand_is ∙ sym (closed_hand GivenUp t anchor store);
       tab = subst (ShowsTab tells state offers st rename q (close_writer GivenUp t anchor store) t) (sym (closed_tab GivenUp t anchor store (let n = ap length tabs in let f = few_tabs in omega arith))) gave.free;
+      within = within_whole (plain_tab (close_writer GivenUp t anchor store) t);
     }
 
     -- the same, of the whole step of the plain store
@@ -214,6 +215,7 @@ module _ {C O : Type 0} (tells : Bool) (state : C → CellState) (offers : O →
                 knows = b.ready.knows;
                 hand = b.ready.hand_is;
                 tab = shows_grown q b.store _ _ refl b.tabs b.grows;
+                within = within_whole (plain_tab b.store t);
               };
             }
           where
@@ -263,6 +265,7 @@ module _ {C O : Type 0} (tells : Bool) (state : C → CellState) (offers : O →
                 knows = subst (λ (c : ℕ). Knows g rename (view q) (close_writer Whole t c f.store) no_guests) w.anchor_is f.knows;
                 hand = f.hand_is ∙ sym (closed_hand Whole t anchor f.store);
                 tab = subst (ShowsTab tells state offers st rename q (close_writer Whole t anchor f.store) t) (sym (closed_tab Whole t anchor f.store (let n = ap length f.tabs in let m = ap length b.tabs in let z = few_tabs in omega arith))) f.free;
+                within = within_whole (plain_tab (close_writer Whole t anchor f.store) t);
               };
             }
           where
@@ -303,8 +306,8 @@ module _ {C O : Type 0} (tells : Bool) (state : C → CellState) (offers : O →
       drops_right hand d = given_as a q (give_up t p) (step answer.Dropped (close_writer GivenUp t anchor p)) (rw writes refl)
           record { answered = d.answer_is; shows = gave_up_so pass p (ready pass p h) anchor writes w q p refl record { knows = done.knows; hand_is = ap (hand_in g.setting.anchors) hand ∙ h.hand; free = done.free } }
         where
-          done : HasHalted g lone rename t w.writes.rests.below (view pass) (view q) w.written.anchor p
-          done = halts_right g lone rename t w.writes.rests.below (view pass) (view q) p pass.hand w.entry (writer_as g w.written w.writes.published w.writes.end (slots_of_link w.writes.end)) (ready pass p h) w.writes.rests.is
+          done : HasHalted g rename whole_lot t w.writes.rests.below (view pass) (view q) w.written.anchor p
+          done = halts_right g rename whole_lot t w.writes.rests.below (view pass) (view q) p w.entry (writer_as g w.written w.writes.published w.writes.end (slots_of_link w.writes.end)) (ready_whole g lone rename t (view pass) p pass.hand (ready pass p h)) refl w.writes.rests.is
               (plain_is pass p (ready pass p h) anchor writes w) (grows pass p (ready pass p h) anchor writes w).there w.grows d.halts
 
   -- An entry was begun on the tab: the pass is ready to write it.

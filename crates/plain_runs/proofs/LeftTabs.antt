@@ -38,9 +38,9 @@ use Rattle.slice_chain.specs.Freeing.{Freed}
 use Rattle.rock_reader.specs.Closing.{Parted}
 use Rattle.rock_reader.proofs.Parting.{done_tabs, freed_tabs, not_last, set_free}
 use Rattle.rock_writer.specs.Halting.{FreedLast, LeftToOther, Parted as WriterParted, Stayed}
-use Rattle.plain_runs.specs.Words.{IsLone, KnowsLot, Lot, ShowsAt, ShowsEntryIf, no_guests, setting_of}
+use Rattle.plain_runs.specs.Words.{KnowsLot, Lot, ShowsAt, ShowsEntryIf, no_guests, setting_of}
 use Rattle.plain_runs.proofs.Frames.{SameBut, chain_same, names_same, step_same}
-use Rattle.plain_runs.proofs.OwnAnchors.{OwnsAnchor, mine_lone, owns_lone, pass_stays}
+use Rattle.plain_runs.proofs.OwnAnchors.{OwnsAnchor, OwnsLot, lot_stays, pass_stays}
 use Rattle.plain_runs.proofs.PlainWords.{left_over_there, readers_fit}
 use Rattle.plain_runs.proofs.Freeing.{FewReaders, but_guests, but_step, evict_freed, evict_leaves, knows_all, knows_but, same_else, vacated_at}
 
@@ -125,10 +125,12 @@ module _ (g : Ground (List ℕ)) (rename : ℕ → ℕ) where
       }
 
   -- The entry that a last tab left over is freed, and nobody comes before.
-  pub last_right : {lot : Lot} → IsLone g → (v u w : View (List ℕ)) (t a n : ℕ) (p : Plain) → length p.tabs ≡ 8 → lot.anchors a ≡ true → KnowsLot g rename lot v p no_guests → is_left_over_at p a ≡ true → Steps g v (Evict t a) n u → n ≡ last_find a v.trail → Freed g u w
+  pub last_right : {lot : Lot} (v u w : View (List ℕ)) (t a n : ℕ) (p : Plain) → OwnsLot g lot v.pass → length p.tabs ≡ 8 → lot.anchors a ≡ true → KnowsLot g rename lot v p no_guests → is_left_over_at p a ≡ true → Steps g v (Evict t a) n u → n ≡ last_find a v.trail → Freed g u w
       → KnowsLot g rename lot w (settle a p) no_guests
-  last_right {lot} lone v u w t a n p eight own knows over st won freed = let o = is_over p a over in subst (λ q. KnowsLot g rename lot w q no_guests) (sym (settle_gone p a over))
-      (evict_freed g rename lone u w a p no_guests (few_all p no_guests eight (λ b. omega arith)) (evict_leaves g rename v u t a n p no_guests o.entry (mine_lone g lone v (Anchor a)) own knows st won o.there o.unread refl) freed)
+  last_right {lot} v u w t a n p owns eight ours knows over st won freed = let o = is_over p a over in let own = owns a st.may.allowed.0 ours in let same = pass_stays g v u (Evict t a) n st in
+      subst (λ q. KnowsLot g rename lot w q no_guests) (sym (settle_gone p a over))
+      (evict_freed g rename u w a p no_guests (few_all p no_guests eight (λ b. omega arith)) (lot_stays g lot v u same owns) (own.words u (Anchor a) same refl)
+      (evict_leaves g rename v u t a n p no_guests o.entry (own.words v (Anchor a) refl refl) ours knows st won o.there o.unread refl) freed)
 
   -- what the word of an anchor tells of its entry
   pub over_known : {lot : Lot} (v : View (List ℕ)) (a : ℕ) (p : Plain) → length p.tabs ≡ 8 → a < g.setting.anchors → lot.anchors a ≡ true → KnowsLot g rename lot v p no_guests → is_left_over (has g v (Anchor a)) ≡ is_left_over_at p a
@@ -180,12 +182,12 @@ module _ (g : Ground (List ℕ)) (rename : ℕ → ℕ) where
     behind_right w (inr (off, inl h)) = gone_right Left.Done w h
     behind_right w (inr (off, inr h)) = absurd (no_done w h)
 
-    pub last_freed_right : IsLone g → (m w : View (List ℕ)) → Leaves g v t Left.MustFree m → Freed g m w → KnowsLot g rename lot w (settle a p) no_guests
-    last_freed_right lone m w (inl h) freed = absurd (false≢true (sym (not_last (tab_at v t) counted) ∙ h.0))
-    last_freed_right lone m w (inr (off, inl h)) freed = absurd (let e : Left.Done ≡ Left.MustFree = sym h.done in cc)
-    last_freed_right lone m w (inr (off, inr h)) freed = subst (λ (b : ℕ). Steps g h.middle (Evict t b) h.gives_up.found m → KnowsLot g rename lot w (settle a p) no_guests) (sym (tab_left h.middle h.found h.leave h.over))
-        (λ st. last_right lone h.middle m w t a h.gives_up.found p eight ours (knows_left h.middle h.found h.leave) (sym (over_is h.middle h.found h.leave) ∙ h.over) st
-        (won_there h.middle m t a h.gives_up.found (mine_left h.middle h.found h.leave) st (find_is h.middle h.found h.leave ∙ sym (has_is h.middle h.found h.leave))) freed) h.gives_up.evict
+    pub last_freed_right : OwnsLot g lot v.pass → (m w : View (List ℕ)) → Leaves g v t Left.MustFree m → Freed g m w → KnowsLot g rename lot w (settle a p) no_guests
+    last_freed_right owns m w (inl h) freed = absurd (false≢true (sym (not_last (tab_at v t) counted) ∙ h.0))
+    last_freed_right owns m w (inr (off, inl h)) freed = absurd (let e : Left.Done ≡ Left.MustFree = sym h.done in cc)
+    last_freed_right owns m w (inr (off, inr h)) freed = subst (λ (b : ℕ). Steps g h.middle (Evict t b) h.gives_up.found m → KnowsLot g rename lot w (settle a p) no_guests) (sym (tab_left h.middle h.found h.leave h.over))
+        (λ st. last_right h.middle m w t a h.gives_up.found p (lot_stays g lot v h.middle (pass_stays g v h.middle (Leave t) h.found h.leave) owns) eight ours (knows_left h.middle h.found h.leave)
+        (sym (over_is h.middle h.found h.leave) ∙ h.over) st (won_there h.middle m t a h.gives_up.found (mine_left h.middle h.found h.leave) st (find_is h.middle h.found h.leave ∙ sym (has_is h.middle h.found h.leave))) freed) h.gives_up.evict
 
   -- What a tab that was counted and left comes to: the plain store is settled at its anchor, and the tab is free.
   pub record LeavesRight (lot : Lot) (t a : ℕ) (p : Plain) (v w : View (List ℕ)) : Type 0 where
@@ -207,38 +209,41 @@ module _ (g : Ground (List ℕ)) (rename : ℕ → ℕ) where
   purged_so v w a p knows tabs = record { knows = knows; tabs = tabs; free = free_by v w inner tabs; inner_free = ap is_free (free_by v w inner tabs) }
 
   -- A tab below the inner one that reads or retreats parts from its anchor.
-  pub parts_right : {lot : Lot} → IsLone g → (v w : View (List ℕ)) (t a : ℕ) (p : Plain) → length p.tabs ≡ 8 → IsPass v → t < inner → InnerIsFree v → is_counted (tab_at v t) ≡ true → anchor_of (tab_at v t) ≡ a → a < g.setting.anchors
+  pub parts_right : {lot : Lot} (v w : View (List ℕ)) (t a : ℕ) (p : Plain) → OwnsLot g lot v.pass → length p.tabs ≡ 8 → IsPass v → t < inner → InnerIsFree v → is_counted (tab_at v t) ≡ true → anchor_of (tab_at v t) ≡ a → a < g.setting.anchors
       → lot.anchors a ≡ true → KnowsLot g rename lot v p (guest_at a) → Parted g t v w → LeavesRight lot t a p v w
-  parts_right {lot} lone v w t a p eight pass below free counted at lt ours knows (inl h) = parted_so v w t a p below free (behind_right lot v t a p eight (owns_lone g lone v.pass a) ours counted at lt knows w h.leaves) (done_tabs g t v counted w h.leaves)
-  parts_right {lot} lone v w t a p eight pass below free counted at lt ours knows (inr h) = parted_so v w t a p below free (last_freed_right lot v t a p eight (owns_lone g lone v.pass a) ours counted at lt knows lone h.middle w h.leaves h.freed) (freed_tabs g t v counted (inl free) h.middle w h.leaves h.freed)
+  parts_right {lot} v w t a p owns eight pass below free counted at lt ours knows (inl h) = parted_so v w t a p below free (behind_right lot v t a p eight (owns a lt ours) ours counted at lt knows w h.leaves) (done_tabs g t v counted w h.leaves)
+  parts_right {lot} v w t a p owns eight pass below free counted at lt ours knows (inr h) = parted_so v w t a p below free (last_freed_right lot v t a p eight (owns a lt ours) ours counted at lt knows owns h.middle w h.leaves h.freed) (freed_tabs g t v counted (inl free) h.middle w h.leaves h.freed)
 
   -- The inner tab, by which an entry is purged, parts from its anchor.
-  pub purge_parts_right : {lot : Lot} → IsLone g → (v w : View (List ℕ)) (a : ℕ) (p : Plain) → length p.tabs ≡ 8 → is_counted (tab_at v inner) ≡ true → anchor_of (tab_at v inner) ≡ a → a < g.setting.anchors
+  pub purge_parts_right : {lot : Lot} (v w : View (List ℕ)) (a : ℕ) (p : Plain) → OwnsLot g lot v.pass → length p.tabs ≡ 8 → is_counted (tab_at v inner) ≡ true → anchor_of (tab_at v inner) ≡ a → a < g.setting.anchors
       → lot.anchors a ≡ true → KnowsLot g rename lot v p (guest_at a) → Parted g inner v w → LeavesRight lot inner a p v w
-  purge_parts_right {lot} lone v w a p eight counted at lt ours knows (inl h) = purged_so v w a p (behind_right lot v inner a p eight (owns_lone g lone v.pass a) ours counted at lt knows w h.leaves) (done_tabs g inner v counted w h.leaves)
-  purge_parts_right {lot} lone v w a p eight counted at lt ours knows (inr h) = purged_so v w a p (last_freed_right lot v inner a p eight (owns_lone g lone v.pass a) ours counted at lt knows lone h.middle w h.leaves h.freed) (freed_tabs g inner v counted (inr refl) h.middle w h.leaves h.freed)
+  purge_parts_right {lot} v w a p owns eight counted at lt ours knows (inl h) = purged_so v w a p (behind_right lot v inner a p eight (owns a lt ours) ours counted at lt knows w h.leaves) (done_tabs g inner v counted w h.leaves)
+  purge_parts_right {lot} v w a p owns eight counted at lt ours knows (inr h) = purged_so v w a p (last_freed_right lot v inner a p eight (owns a lt ours) ours counted at lt knows owns h.middle w h.leaves h.freed) (freed_tabs g inner v counted (inr refl) h.middle w h.leaves h.freed)
 
   -- A tab raised its entry to an end, and parts from it. It is last exactly where the entry is left over.
-  pub writer_parts_right : {lot : Lot} → IsLone g → (v w : View (List ℕ)) (t a : ℕ) (p : Plain) → length p.tabs ≡ 8 → a < g.setting.anchors → lot.anchors a ≡ true → KnowsLot g rename lot v p no_guests → is_last (tab_at v t) ≡ is_left_over_at p a
+  pub writer_parts_right : {lot : Lot} (v w : View (List ℕ)) (t a : ℕ) (p : Plain) → OwnsLot g lot v.pass → length p.tabs ≡ 8 → a < g.setting.anchors → lot.anchors a ≡ true → KnowsLot g rename lot v p no_guests → is_last (tab_at v t) ≡ is_left_over_at p a
       → (is_last (tab_at v t) ≡ true → (anchor_of (tab_at v t) ≡ a) × (last_find a v.trail ≡ has g v (Anchor a))) → WriterParted g t v w → KnowsLot g rename lot w (settle a p) no_guests
-  writer_parts_right {lot} lone v w t a p eight lt ours knows same last parted = by_parting parted.parting
+  writer_parts_right {lot} v w t a p owns eight lt ours knows same last parted = by_parting parted.parting
     where
+      mine : Mine g v (Anchor a)
+      mine = (owns a lt ours).words v (Anchor a) refl refl
+
       tried : (left : Left) (u : View (List ℕ)) → is_last (tab_at v t) ≡ true → (h : TriedToFree g v t left u) → Steps g v (Evict t a) h.found u
       tried left u was h = subst (λ (b : ℕ). Steps g v (Evict t b) h.found u) (last was).0 h.evict
 
       wins : (left : Left) (u : View (List ℕ)) → (was : is_last (tab_at v t) ≡ true) → (h : TriedToFree g v t left u) → h.found ≡ last_find (anchor_of (tab_at v t)) v.trail
-      wins left u was h = won_there v u t a h.found (mine_lone g lone v (Anchor a)) (tried left u was h) (last was).1 ∙ ap (λ b. last_find b v.trail) (sym (last was).0)
+      wins left u was h = won_there v u t a h.found mine (tried left u was h) (last was).1 ∙ ap (λ b. last_find b v.trail) (sym (last was).0)
 
       by_parting : Stayed g t v w ⊎ LeftToOther g t v w ⊎ FreedLast g t v w → KnowsLot g rename lot w (settle a p) no_guests
       by_parting (inl h) = subst (λ q. KnowsLot g rename lot w q no_guests) (sym (settle_stays p a (sym same ∙ h.used))) (subst (λ (z : View (List ℕ)). KnowsLot g rename lot z p no_guests) (sym h.same) knows)
       by_parting (inr (inl h)) = absurd (let e : Left.Done ≡ Left.MustFree = h.gives_up.won.1 (wins Left.Done w h.was h.gives_up) in cc)
-      by_parting (inr (inr h)) = last_right lone v h.middle w t a h.gives_up.found p eight ours knows (sym same ∙ h.was) (tried Left.MustFree h.middle h.was h.gives_up)
-          (won_there v h.middle t a h.gives_up.found (mine_lone g lone v (Anchor a)) (tried Left.MustFree h.middle h.was h.gives_up) (last h.was).1) h.freed
+      by_parting (inr (inr h)) = last_right v h.middle w t a h.gives_up.found p owns eight ours knows (sym same ∙ h.was) (tried Left.MustFree h.middle h.was h.gives_up)
+          (won_there v h.middle t a h.gives_up.found mine (tried Left.MustFree h.middle h.was h.gives_up) (last h.was).1) h.freed
 
   -- the same, of the tab that a step to CLOSED or HALTED left
-  pub raised_parts_right : {lot : Lot} → IsLone g → (u v w : View (List ℕ)) (t a n : ℕ) (to : Stage) (x : Writer (List ℕ)) (p : Plain) → length p.tabs ≡ 8 → Steps g u (Raise t to) n v → (to ≡ stage.Closed) ⊎ (to ≡ stage.Halted) → tab_at u t ≡ Writing x
+  pub raised_parts_right : {lot : Lot} (u v w : View (List ℕ)) (t a n : ℕ) (to : Stage) (x : Writer (List ℕ)) (p : Plain) → OwnsLot g lot v.pass → length p.tabs ≡ 8 → Steps g u (Raise t to) n v → (to ≡ stage.Closed) ⊎ (to ≡ stage.Halted) → tab_at u t ≡ Writing x
       → x.anchor ≡ a → a < g.setting.anchors → lot.anchors a ≡ true → KnowsLot g rename lot v p no_guests → WriterParted g t v w → KnowsLot g rename lot w (settle a p) no_guests
-  raised_parts_right {lot} lone u v w t a n to x p eight st ended is at lt ours knows parted = writer_parts_right lone v w t a p eight lt ours knows
+  raised_parts_right {lot} u v w t a n to x p owns eight st ended is at lt ours knows parted = writer_parts_right v w t a p owns eight lt ours knows
       (ap is_last tab ∙ last_if (is_left_over left) ∙ over) (λ was. (ap anchor_of tab ∙ anchor_if (is_left_over left) (sym (last_if (is_left_over left)) ∙ ap is_last (sym tab) ∙ was), find ∙ sym left_there)) parted
     where
       left : ℕ

@@ -116,6 +116,7 @@ module _ {C O : Type 0} (tells : Bool) (state : C → CellState) (offers : O →
         hand = (cc (more.keeps.hand, shows.hand));
         eight = shows.eight;
         tabs = λ t lt own. tab_still t lt (plain_tab plain t) (shows.tabs t lt own);
+        within = shows.within;
         away = λ t lt no. absurd (false≢true (sym no));
       }
         where

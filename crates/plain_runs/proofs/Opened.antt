@@ -127,6 +127,7 @@ module _ {C O : Type 0} (tells : Bool) (state : C → CellState) (offers : O →
         hand = ap (λ (n : ℕ). cond (nat_lt n g.setting.anchors) n 0) new.hand ∙ first_hand (nat_lt 0 g.setting.anchors);
         eight = refl;
         tabs = λ t lt own. subst (ShowsTab tells state offers s (λ v. v) p first t) (sym (free_tab 8 t)) (new_free t);
+        within = λ t lt own. within_free whole_lot (plain_tab first t) (free_tab 8 t);
         away = λ t lt no. absurd (false≢true (sym no));
       }
 

@@ -27,6 +27,7 @@ use Rattle.store_rule.specs.declared.store.Store.{Store}
 use Rattle.store_rule.specs.Ground.{Ground, Offers, anchor_for}
 use Rattle.store_rule.specs.Passes.{basis, view}
 use Rattle.store_rule.specs.Words.{Mine}
+use Rattle.core_model.specs.declared.moves.Move.TheVariants.{Doom, Enter}
 use Rattle.core_model.specs.declared.view.Place.TheVariants.{Anchor}
 use Rattle.slice_chain.specs.Victims.{hand_in}
 use Rattle.rock_reader.specs.Opening.{Came, Refused}
@@ -35,18 +36,20 @@ use Rattle.store_serve.specs.Answers.{answer_to_purge}
 use Rattle.store_serve.specs.Tabs.{IsFree}
 use Rattle.store_serve.specs.Whole.{Purges, whole_tab}
 use Rattle.worker_shelf.specs.Typed.{IsTyped, TellsKey}
-use Rattle.plain_runs.specs.Shows.{Shows, ShowsTab}
-use Rattle.plain_runs.specs.Words.{IsLone, Knows, no_guests, setting_of, whole_lot}
+use Rattle.plain_runs.specs.Shows.{Shows, ShowsLot, ShowsTab}
+use Rattle.plain_runs.specs.Words.{IsLone, KnowsLot, Lot, no_guests, setting_of, whole_lot}
 use Rattle.plain_runs.proofs.AnchorWords.{doom_knows, doomed_there, left_epoch}
 use Rattle.plain_runs.proofs.Coming.{HasCome, away_judged, came_knows, hit_judged, keyed_knows, keyed_pass, keyed_tab, other_judged, retreats, undoomed}
 use Rattle.plain_runs.proofs.LeftTabs.{guest_at, purge_parts_right}
 use Rattle.plain_runs.proofs.ServedLines.{IsAs}
 use Rattle.plain_runs.proofs.Opening.{MissRight, settled}
-use Rattle.plain_runs.proofs.OwnAnchors.{owns_lone}
+use Rattle.plain_runs.proofs.OwnAnchors.{OwnsLot, lot_lone, lot_stays, pass_stays}
 use Rattle.plain_runs.proofs.Renamed.{IsRenamed, own_step, renamed_step}
 use Rattle.plain_runs.proofs.PlainWords.{readers_fit}
+use Rattle.plain_runs.proofs.ShowingOthers.{within_free}
 
-module _ {C O : Type 0} (tells : Bool) (state : C → CellState) (offers : O → Offers) (s : Store C O) (rename : ℕ → ℕ) (lone : IsLone (basis tells state offers s)) (url : List ℕ) (p : Pass C) (pl : Plain) (h : Shows tells state offers s rename p pl) where
+module _ {C O : Type 0} (tells : Bool) (state : C → CellState) (offers : O → Offers) (s : Store C O) (rename : ℕ → ℕ) (lot : Lot) (url : List ℕ) (p : Pass C) (pl : Plain)
+    (owns : OwnsLot (basis tells state offers s) lot (view p).pass) (h : ShowsLot tells state offers s rename p pl lot) (ours : lot.anchors (anchor_for (basis tells state offers s) url) ≡ true) (mine : lot.tabs whole_tab ≡ true) where
   abbrev g : Ground (List ℕ)
   g = basis tells state offers s
 
@@ -54,37 +57,37 @@ module _ {C O : Type 0} (tells : Bool) (state : C → CellState) (offers : O →
   a = anchor_for g url
 
   abbrev come : (epoch : Epoch) (entered w : View (List ℕ)) → Came g inner url (view p) epoch entered w → HasCome g rename inner a
-  come epoch entered w c = record { store = pl; eight = h.eight; before = view p; own = owns_lone (basis tells state offers s) lone (view p).pass (anchor_for (basis tells state offers s) url); lot = whole_lot; ours = refl; knows = h.knows; found = c.found; came = entered; enter = c.enter; epoch = epoch; epoch_is = c.epoch_is }
+  come epoch entered w c = record { store = pl; eight = h.eight; before = view p; own = owns (anchor_for (basis tells state offers s) url) c.enter.may.allowed.0 ours; lot = lot; ours = ours; knows = h.knows; found = c.found; came = entered; enter = c.enter; epoch = epoch; epoch_is = c.epoch_is }
 
   -- There was nothing to purge.
-  pub purge_refused : (w : View (List ℕ)) (c : Cause) → TellsKey c → Refused g inner url (view p) c w → MissRight tells state offers s rename lone a (key_of url) c pl w
+  pub purge_refused : (w : View (List ℕ)) (c : Cause) → TellsKey c → Refused g inner url (view p) c w → MissRight tells state offers s rename lot a (key_of url) c pl w
   purge_refused w c typed (inl r) =
       let st = r.came.enter in
       let told = away_judged g rename inner a (come r.epoch r.entered w r.came) (key_of url) c r.cause_is in
       let tab = retreats g rename inner a (come r.epoch r.entered w r.came) r.unreadable in
-      let left = purge_parts_right g rename lone r.entered w a pl h.eight (ap core.is_counted tab) (ap core.anchor_of tab) st.may.allowed.0 refl
+      let left = purge_parts_right g rename r.entered w a pl (lot_stays g lot (view p) r.entered (pass_stays g (view p) r.entered (Enter inner a) r.came.found st) owns) h.eight (ap core.is_counted tab) (ap core.anchor_of tab) st.may.allowed.0 ours
       (came_knows g rename inner a (come r.epoch r.entered w r.came)) r.parted in
-      record { cause = told.0; judged = told.1; cause_is = told.2; knows = subst (λ (x : Plain). Knows g rename w x no_guests) (settled tells state offers s rename lone p pl h a st.may.allowed.0) left.knows }
+      record { cause = told.0; judged = told.1; cause_is = told.2; knows = subst (λ (x : Plain). KnowsLot g rename lot w x no_guests) (settled tells state offers s rename lot p pl owns h a st.may.allowed.0 ours) left.knows }
   purge_refused w c typed (inr r) =
       let st = r.came.enter in
       let d = r.declined in
       let told = other_judged g rename inner a (come r.epoch r.entered w r.came) r.readable d.key d.keyed d.loaded (key_of url) c typed d.other d.cause_is in
       let tab = keyed_tab g rename inner a (come r.epoch r.entered w r.came) r.readable d.key d.keyed d.loaded in
-      let left = purge_parts_right g rename lone d.keyed w a pl h.eight (ap core.is_counted tab) (ap core.anchor_of tab) st.may.allowed.0 refl
+      let left = purge_parts_right g rename d.keyed w a pl (lot_stays g lot (view p) d.keyed (keyed_pass g rename inner a (come r.epoch r.entered w r.came) r.readable d.key d.keyed d.loaded) owns) h.eight (ap core.is_counted tab) (ap core.anchor_of tab) st.may.allowed.0 ours
       (keyed_knows g rename inner a (come r.epoch r.entered w r.came) r.readable d.key d.keyed d.loaded) d.parted in
-      record { cause = told.0; judged = told.1; cause_is = told.2; knows = subst (λ (x : Plain). Knows g rename w x no_guests) (settled tells state offers s rename lone p pl h a st.may.allowed.0) left.knows }
+      record { cause = told.0; judged = told.1; cause_is = told.2; knows = subst (λ (x : Plain). KnowsLot g rename lot w x no_guests) (settled tells state offers s rename lot p pl owns h a st.may.allowed.0 ours) left.knows }
 
   -- An entry was doomed.
   pub record PurgedRight (left : Epoch) (w : View (List ℕ)) : Type 0 where
     pub judged : judge (setting_of g) pl a (key_of url) ≡ None
     pub left_is : left ≡ renamed_epoch rename (plain.epoch_of (room_of g.slot) (place_at (doom_at a pl) a))
-    pub knows : Knows g rename w (settle a (doom_at a pl)) no_guests
+    pub knows : KnowsLot g rename lot w (settle a (doom_at a pl)) no_guests
 
   module _ (w : View (List ℕ)) (left : Epoch) (o : Purged g inner url (view p) left w) where
     within : a < g.setting.anchors
     within = o.came.enter.may.allowed.0
 
-    loaded : Knows g rename o.entry.keyed pl (guest_at a)
+    loaded : KnowsLot g rename lot o.entry.keyed pl (guest_at a)
     loaded = keyed_knows g rename inner a (come o.epoch o.entered w o.came) o.readable (key_of url) o.entry.keyed o.entry.key
 
     at : core.anchor_of (core.tab_at o.entry.keyed inner) ≡ a
@@ -93,16 +96,19 @@ module _ {C O : Type 0} (tells : Bool) (state : C → CellState) (offers : O →
     not_yet : (place_at pl a).doom ≡ false
     not_yet = undoomed g rename inner a (come o.epoch o.entered w o.came) o.readable
 
-    mine : Mine g o.entry.keyed (Anchor a)
-    mine = (owns_lone g lone (view p).pass a).words o.entry.keyed (Anchor a) (keyed_pass g rename inner a (come o.epoch o.entered w o.came) o.readable (key_of url) o.entry.keyed o.entry.key) refl
+    still : o.entry.keyed.pass ≡ (view p).pass
+    still = keyed_pass g rename inner a (come o.epoch o.entered w o.came) o.readable (key_of url) o.entry.keyed o.entry.key
 
-    doomed_knows : Knows g rename o.entry.after (doom_at a pl) (guest_at a)
-    doomed_knows = doom_knows g rename whole_lot o.entry.keyed o.entry.after pl inner a o.entry.word mine refl within at not_yet (readers_fit pl a 1 h.eight (omega arith)) loaded o.entry.doom
+    alone : Mine g o.entry.keyed (Anchor a)
+    alone = (owns a within ours).words o.entry.keyed (Anchor a) still refl
+
+    doomed_knows : KnowsLot g rename lot o.entry.after (doom_at a pl) (guest_at a)
+    doomed_knows = doom_knows g rename lot o.entry.keyed o.entry.after pl inner a o.entry.word alone ours within at not_yet (readers_fit pl a 1 h.eight (omega arith)) loaded o.entry.doom
 
     epoch_left : left ≡ renamed_epoch rename (plain.epoch_of (room_of g.slot) (place_at (doom_at a pl) a))
     epoch_left = same_epoch left (renamed_epoch rename (plain.epoch_of (room_of g.slot) (place_at (doom_at a pl) a)))
-        (o.entry.left_is ∙ left_epoch g rename whole_lot o.entry.keyed o.entry.after pl inner a o.entry.word mine refl within at not_yet (readers_fit pl a 1 h.eight (omega arith)) loaded o.entry.doom
-        ∙ ap (λ (x : PlaceOf). epoch_number (renamed_epoch rename (plain.epoch_of (room_of g.slot) x))) (sym (doomed_there g rename whole_lot o.entry.keyed o.entry.after pl inner a o.entry.word mine refl within at not_yet (readers_fit pl a 1 h.eight (omega arith)) loaded o.entry.doom)))
+        (o.entry.left_is ∙ left_epoch g rename lot o.entry.keyed o.entry.after pl inner a o.entry.word alone ours within at not_yet (readers_fit pl a 1 h.eight (omega arith)) loaded o.entry.doom
+        ∙ ap (λ (x : PlaceOf). epoch_number (renamed_epoch rename (plain.epoch_of (room_of g.slot) x))) (sym (doomed_there g rename lot o.entry.keyed o.entry.after pl inner a o.entry.word alone ours within at not_yet (readers_fit pl a 1 h.eight (omega arith)) loaded o.entry.doom)))
 
     reads_still : core.tab_at o.entry.after inner ≡ core.tab_at o.entry.keyed inner
     reads_still = ap (λ (v : View (List ℕ)). core.tab_at v inner) o.entry.doom.leaves
@@ -111,20 +117,20 @@ module _ {C O : Type 0} (tells : Bool) (state : C → CellState) (offers : O →
     purged_right = record {
       judged = hit_judged g rename inner a (come o.epoch o.entered w o.came) o.readable (key_of url) o.entry.keyed o.entry.key url refl;
       left_is = epoch_left;
-      knows = (purge_parts_right g rename lone o.entry.after w a (doom_at a pl) h.eight (ap core.is_counted (reads_still ∙ o.entry.reads)) (ap core.anchor_of reads_still ∙ at) within refl doomed_knows o.entry.parted).knows;
+      knows = (purge_parts_right g rename o.entry.after w a (doom_at a pl) (lot_stays g lot (view p) o.entry.after (pass_stays g o.entry.keyed o.entry.after (Doom inner) o.entry.word o.entry.doom ∙ still) owns) h.eight (ap core.is_counted (reads_still ∙ o.entry.reads)) (ap core.anchor_of reads_still ∙ at) within ours doomed_knows o.entry.parted).knows;
     }
 
   -- A request to purge.
-  pub purges_right : (given : Answer) (q : Pass C) → tab_at pl whole_tab ≡ Free → IsTyped given → q.hand ≡ p.hand → Purges tells state offers s url p given q → IsRenamed tells state offers s rename given q whole_tab (purge (setting_of g) url pl)
+  pub purges_right : (given : Answer) (q : Pass C) → tab_at pl whole_tab ≡ Free → IsTyped given → q.hand ≡ p.hand → Purges tells state offers s url p given q → IsRenamed tells state offers s rename lot given q whole_tab (purge (setting_of g) url pl)
   purges_right given q free typed hand k = of_outcome k.outcome k.answer_is k.purged k.refused
     where
       free_still : IsFree q whole_tab
-      free_still = ap (λ (xs : List (core_tab.Tab (List ℕ))). get_or xs whole_tab core_tab.Tab.Free) k.same ∙ subst (ShowsTab tells state offers s rename p pl whole_tab) free (h.tabs whole_tab (omega arith) refl)
+      free_still = ap (λ (xs : List (core_tab.Tab (List ℕ))). get_or xs whole_tab core_tab.Tab.Free) k.same ∙ subst (ShowsTab tells state offers s rename p pl whole_tab) free (h.tabs whole_tab (omega arith) mine)
 
-      is_step : (r : Step) → purge (setting_of g) url pl ≡ r → given ≡ renamed rename r.answer → r.after.hand ≡ pl.hand → tab_at r.after whole_tab ≡ Free → Knows g rename (view q) r.after no_guests
-          → IsRenamed tells state offers s rename given q whole_tab (purge (setting_of g) url pl)
-      is_step r e answered same_hand same_tab knows = renamed_step tells state offers s rename given q whole_tab (purge (setting_of g) url pl) r e answered
-          record { knows = knows; hand = ap (hand_in g.setting.anchors) hand ∙ h.hand ∙ sym same_hand; tab = subst (ShowsTab tells state offers s rename q r.after whole_tab) (sym same_tab) free_still }
+      is_step : (r : Step) → purge (setting_of g) url pl ≡ r → given ≡ renamed rename r.answer → r.after.hand ≡ pl.hand → tab_at r.after whole_tab ≡ Free → KnowsLot g rename lot (view q) r.after no_guests
+          → IsRenamed tells state offers s rename lot given q whole_tab (purge (setting_of g) url pl)
+      is_step r e answered same_hand same_tab knows = renamed_step tells state offers s rename lot given q whole_tab (purge (setting_of g) url pl) r e answered
+          record { knows = knows; hand = ap (hand_in g.setting.anchors) hand ∙ h.hand ∙ sym same_hand; tab = subst (ShowsTab tells state offers s rename q r.after whole_tab) (sym same_tab) free_still; within = within_free lot (tab_at r.after whole_tab) same_tab }
 
       purged_step : judge (setting_of g) pl a (key_of url) ≡ None → purge (setting_of g) url pl ≡ step (answer.Purged (plain.epoch_of (room_of g.slot) (place_at (doom_at a pl) a))) (settle a (doom_at a pl))
       purged_step j = rw j refl
@@ -141,7 +147,7 @@ module _ {C O : Type 0} (tells : Bool) (state : C → CellState) (offers : O →
       settled_tab false e = rw e free
 
       of_outcome : (outcome : Result Epoch Cause) → given ≡ answer_to_purge outcome → IfOk outcome (λ left. Purged g inner url (view p) left (view q)) → IfErr outcome (λ cause. Refused g inner url (view p) cause (view q))
-          → IsRenamed tells state offers s rename given q whole_tab (purge (setting_of g) url pl)
+          → IsRenamed tells state offers s rename lot given q whole_tab (purge (setting_of g) url pl)
       of_outcome (Ok left) is purged refused =
           let r = purged_right (view q) left purged in
           is_step (step (answer.Purged (plain.epoch_of (room_of g.slot) (place_at (doom_at a pl) a))) (settle a (doom_at a pl))) (purged_step r.judged) (is ∙ ap answer.Purged r.left_is)
@@ -154,4 +160,4 @@ module _ {C O : Type 0} (tells : Bool) (state : C → CellState) (offers : O →
 module _ {C O : Type 0} (tells : Bool) (state : C → CellState) (offers : O → Offers) (s : Store C O) (lone : IsLone (basis tells state offers s)) where
   pub purges_as : (url : List ℕ) (p q : Pass C) (given : Answer) (plain : Plain) → Shows tells state offers s (λ v. v) p plain → tab_at plain whole_tab ≡ Free → IsTyped given → q.hand ≡ p.hand
       → Purges tells state offers s url p given q → IsAs tells state offers s given q whole_tab (purge (setting_of (basis tells state offers s)) url plain)
-  purges_as url p q given plain shows free typed hand h = own_step tells state offers s given q whole_tab _ (purges_right tells state offers s (λ v. v) lone url p plain shows given q free typed hand h)
+  purges_as url p q given plain shows free typed hand h = own_step tells state offers s given q whole_tab _ (purges_right tells state offers s (λ v. v) whole_lot url p plain (lot_lone (basis tells state offers s) lone whole_lot (view p).pass) shows refl refl given q free typed hand h)

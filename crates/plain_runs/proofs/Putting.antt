@@ -37,6 +37,7 @@ use Rattle.plain_runs.specs.Words.{IsLone, setting_of}
 use Rattle.plain_runs.specs.Shows.{Shows, ShowsTab, ShowsWriting}
 use Rattle.plain_runs.proofs.BeginLines.{IsBegun, NotBegun, is_begun, not_begun, put_ends, put_refused}
 use Rattle.plain_runs.proofs.Giving.{IsGiven, began_others, ends_so, quiet}
+use Rattle.plain_runs.proofs.ShowingOthers.{within_whole}
 use Rattle.plain_runs.proofs.Reserving.{IsReadied, quiet_on}
 
 module _ {C O : Type 0} (tells : Bool) (state : C → CellState) (offers : O → Offers) (st : Store C O) (lone : IsLone (basis tells state offers st)) (rename : ℕ → ℕ) (below : 7 < 8) (pass q : Pass C) (p : Plain) (a : Answer)
@@ -112,6 +113,7 @@ module _ {C O : Type 0} (tells : Bool) (state : C → CellState) (offers : O →
           knows = nb.knows;
           hand = ap (hand_in g.setting.anchors) hand ∙ h.hand;
           tab = subst (ShowsTab tells state offers st rename q p 7) (sym free) d.free;
+          within = within_whole (plain_tab p 7);
         };
       }
         where

@@ -30,9 +30,10 @@ use Rattle.rock_writer.proofs.Resting.{inner_now, nine_now, tab_now}
 use Rattle.slice_chain.specs.Victims.{hand_in}
 use Rattle.store_rule.specs.Ground.{Ground}
 use Rattle.store_rule.specs.Told.{Stands}
-use Rattle.plain_runs.specs.Words.{IsLone, Knows, no_guests, setting_of, spare, spare_of}
+use Rattle.plain_runs.specs.Words.{IsLone, Knows, KnowsLot, Lot, no_guests, setting_of, spare, spare_of, whole_lot}
 use Rattle.plain_runs.proofs.Claims.{ClaimsRight, GaveWay, RunsOutRight, claims_right, runs_out_right}
 use Rattle.plain_runs.proofs.Holding.{AllRaised}
+use Rattle.plain_runs.proofs.OwnAnchors.{OwnsLot, lot_lone}
 use Rattle.plain_runs.proofs.PlainWords.{readers_fit}
 use Rattle.plain_runs.proofs.Totals.{sum_only}
 
@@ -99,6 +100,15 @@ module _ {X : Type 0} where
           (λ same. let k : true ≡ false = sym free ∙ ap is_free (ap (tab_at v) (sym same) ∙ e) in cc)
           (λ far. (subst IsQuiet e (quiet j ne far)).1))
 
+-- A pass that knows the plain store p of its own lot, with its inner tab free.
+pub record IsReady (g : Ground (List ℕ)) (rename : ℕ → ℕ) (lot : Lot) (v : View (List ℕ)) (p : Plain) : Type 0 where
+  pub knows : KnowsLot g rename lot v p no_guests
+  pub owns : OwnsLot g lot v.pass
+  pub stands : Stands g v
+  pub pass : IsPass v
+  pub inner_free : InnerIsFree v
+  pub eight : length p.tabs ≡ 8
+
 module _ (g : Ground (List ℕ)) (lone : IsLone g) (rename : ℕ → ℕ) where
   -- A pass that knows the plain store p, with its hand, between two calls or while the tab t needs slots: all other tabs are at rest.
   pub record IsReadied (t : ℕ) (v : View (List ℕ)) (p : Plain) (hand : ℕ) : Type 0 where
@@ -109,6 +119,9 @@ module _ (g : Ground (List ℕ)) (lone : IsLone g) (rename : ℕ → ℕ) where
     pub quiet : AreQuiet t v
     pub hand_is : hand_in g.setting.anchors hand ≡ p.hand
     pub eight : length p.tabs ≡ 8
+
+  pub ready_whole : (t : ℕ) (v : View (List ℕ)) (p : Plain) (hand : ℕ) → IsReadied t v p hand → IsReady g rename whole_lot v p
+  ready_whole t v p hand h = record { knows = h.knows; owns = lot_lone g lone whole_lot v.pass; stands = h.stands; pass = h.pass; inner_free = h.inner_free; eight = h.eight }
 
   -- the slot is claimed in the plain store too, and there is nothing else
   pub record HasClaimed (t n a : ℕ) (v u : View (List ℕ)) (p : Plain) (hand slot : ℕ) : Type 0 where

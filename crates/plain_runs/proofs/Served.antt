@@ -29,13 +29,14 @@ use Rattle.worker_shelf.specs.Shelves.{LeavesFree, LeavesReader, LeavesWriter, L
 use Rattle.worker_shelf.specs.Typed.{IsTyped}
 use Rattle.crew_accounts.proofs.GivenBytes.{IsFromFront}
 use Rattle.plain_runs.specs.Shows.{Shows, ShowsTab}
-use Rattle.plain_runs.specs.Words.{IsLone, setting_of}
+use Rattle.plain_runs.specs.Words.{IsLone, setting_of, whole_lot}
 use Rattle.plain_runs.proofs.BeginLines.{begins_as}
 use Rattle.plain_runs.proofs.GetLines.{gets_as}
 use Rattle.plain_runs.proofs.ServedLines.{RequestsRight, free_not_reading, free_not_writing, reads_not_free, reads_not_writing, request_right, writes_not_free, writes_not_reading}
 use Rattle.plain_runs.proofs.Opening.{closes_as, mores_as, opens_as}
 use Rattle.plain_runs.proofs.OtherTabs.{IsOwn, close_else, give_up_keeps}
 use Rattle.plain_runs.proofs.PurgeLines.{purges_as}
+use Rattle.plain_runs.proofs.OwnAnchors.{lot_lone}
 use Rattle.plain_runs.proofs.ShowingOthers.{OneBegins, shows_after}
 use Rattle.plain_runs.proofs.WritingLines.{adds_as, drops_as, ends_as, puts_as}
 
@@ -73,8 +74,8 @@ module _ {C O : Type 0} (tells : Bool) (state : C → CellState) (offers : O →
 
     closed : (anchor given : ℕ) (is_other : Bool) → tab_at plain t ≡ Reading anchor given is_other → Parted (basis tells state offers s) t (view p) (view q) → Shows tells state offers s (λ v. v) q (leave t plain)
     closed anchor given is_other is parted = subst (λ (x : Plain). Shows tells state offers s (λ v. v) q x) (sym leaves_so)
-        (shows_after tells state offers s (λ v. v) begins stays lone p q plain (close t plain).after t h left.leaves (close_else t (IsOwn t plain) (setting_of (basis tells state offers s)) plain)
-        (closes_as tells state offers s lone t anchor given is_other p q answer.Closed plain eighth h is left.stays record { answer_is = refl; parted = parted; free = left.free; stays = left.stays }).shows eighth)
+        (shows_after tells state offers s (λ v. v) begins stays whole_lot p q plain (close t plain).after t (lot_lone (basis tells state offers s) lone whole_lot (view p).pass) h left.leaves (close_else t (IsOwn t plain) (setting_of (basis tells state offers s)) plain)
+        (closes_as tells state offers s lone t anchor given is_other p q answer.Closed plain eighth h is left.stays record { answer_is = refl; parted = parted; free = left.free; stays = left.stays }).shows eighth refl)
       where
         closes_so : (close t plain).after ≡ settle anchor (with_tab plain t Free)
         closes_so = rw is refl
@@ -87,8 +88,8 @@ module _ {C O : Type 0} (tells : Bool) (state : C → CellState) (offers : O →
 
     dropped : (anchor : ℕ) → tab_at plain t ≡ Writing anchor → Halts (basis tells state offers s) t (view p) (view q) → Shows tells state offers s (λ v. v) q (leave t plain)
     dropped anchor is halts = subst (λ (x : Plain). Shows tells state offers s (λ v. v) q x) (sym leaves_so)
-        (shows_after tells state offers s (λ v. v) begins stays lone p q plain (give_up t plain).after t h left.leaves (give_up_keeps t (setting_of (basis tells state offers s)) plain)
-        (drops_as tells state offers s lone t anchor p q answer.Dropped plain eighth h is left.stays record { answer_is = refl; halts = halts; stays = left.stays }).shows eighth)
+        (shows_after tells state offers s (λ v. v) begins stays whole_lot p q plain (give_up t plain).after t (lot_lone (basis tells state offers s) lone whole_lot (view p).pass) h left.leaves (give_up_keeps t (setting_of (basis tells state offers s)) plain)
+        (drops_as tells state offers s lone t anchor p q answer.Dropped plain eighth h is left.stays record { answer_is = refl; halts = halts; stays = left.stays }).shows eighth refl)
       where
         gives_up_so : (give_up t plain).after ≡ close_writer GivenUp t anchor plain
         gives_up_so = rw is refl

@@ -37,10 +37,11 @@ use Rattle.store_serve.specs.Whole.{Gets, Purges, Puts, whole_tab}
 use Rattle.store_serve.specs.Writing.{AddsTo, Begins, Drops, EndsEntry}
 use Rattle.worker_shelf.proofs.Holding.{Stays}
 use Rattle.worker_shelf.specs.Typed.{IsTyped}
-use Rattle.plain_runs.specs.Words.{IsLone, setting_of}
+use Rattle.plain_runs.specs.Words.{IsLone, setting_of, whole_lot}
 use Rattle.plain_runs.specs.Shows.{Shows, ShowsReading, ShowsTab, ShowsWriting}
 use Rattle.plain_runs.proofs.OtherTabs.{IsOwn, KeepsElse, add_keeps, begin_keeps, close_else, end_keeps, get_else, give_up_keeps, more_else, open_else, purge_else, put_keeps}
-use Rattle.plain_runs.proofs.ShowingOthers.{OneBegins, ShowsOn, shows_after}
+use Rattle.plain_runs.proofs.OwnAnchors.{lot_lone}
+use Rattle.plain_runs.proofs.ShowingOthers.{OneBegins, ShowsOn, shows_after, within_whole}
 
 module _ {C O : Type 0} (tells : Bool) (state : C → CellState) (offers : O → Offers) (s : Store C O) where
   abbrev g : Ground (List ℕ)
@@ -56,7 +57,7 @@ module _ {C O : Type 0} (tells : Bool) (state : C → CellState) (offers : O →
   -- The answer is that of the plain store's step, and the tab and all that the pass knows is what the step leaves.
   pub record IsAs (a : Answer) (q : Pass C) (t : ℕ) (made : Step) : Type 0 where
     pub answered : a ≡ made.answer
-    pub shows : ShowsOn tells state offers s (λ v. v) q made.after t
+    pub shows : ShowsOn tells state offers s (λ v. v) whole_lot q made.after t
 
   -- What is known of requests that were met, each on a tab that the plain store has so.
   pub record RequestsRight : Type 0 where
@@ -103,8 +104,8 @@ module _ {C O : Type 0} (tells : Bool) (state : C → CellState) (offers : O →
     pub turned_away : (a : Answer) (q : Pass C) (made : Step) → IsTurnedAway p a q → made ≡ step answer.Tab plain → IsAs a q t made
     turned_away a q made away is = record {
       answered = away.answered ∙ ap (λ (m : Step). m.answer) (sym is);
-      shows = subst (λ (x : Plain). ShowsOn tells state offers s (λ v. v) q x t) (ap (λ (m : Step). m.after) (sym is))
-          (subst (λ (x : Pass C). ShowsOn tells state offers s (λ v. v) x plain t) (sym away.still) record { knows = h.knows; hand = h.hand; tab = shown });
+      shows = subst (λ (x : Plain). ShowsOn tells state offers s (λ v. v) whole_lot q x t) (ap (λ (m : Step). m.after) (sym is))
+          (subst (λ (x : Pass C). ShowsOn tells state offers s (λ v. v) whole_lot x plain t) (sym away.still) record { knows = h.knows; hand = h.hand; tab = shown; within = within_whole (tab_at plain t) });
     }
 
     -- a request on a free tab, on one that writes, and on one that reads
@@ -152,7 +153,7 @@ module _ {C O : Type 0} (tells : Bool) (state : C → CellState) (offers : O →
 
     module _ (begins : OneBegins) (stays : Stays tells state offers s) (lone : IsLone g) where
       after_all : (t : ℕ) (made : Step) → t < 8 → Leaves tells state offers s t p q → IsAs a q t made → KeepsElse t (IsOwn t plain) plain made.after → Goal made
-      after_all t made below leaves is keeps = (is.answered, shows_after tells state offers s (λ v. v) begins stays lone p q plain made.after t h leaves keeps is.shows below)
+      after_all t made below leaves is keeps = (is.answered, shows_after tells state offers s (λ v. v) begins stays whole_lot p q plain made.after t (lot_lone g lone whole_lot (view p).pass) h leaves keeps is.shows below refl)
 
       abbrev offer : ℕ
       offer = offer_of tells state offers s number

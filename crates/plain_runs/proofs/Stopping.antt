@@ -34,13 +34,13 @@ use Rattle.store_rule.specs.declared.store.Store.{Store}
 use Rattle.store_rule.specs.Ground.{Ground, Offers}
 use Rattle.store_rule.specs.Passes.{basis, view}
 use Rattle.store_serve.specs.Adding.{Call, NotAdded, Took, taken_on}
-use Rattle.plain_runs.specs.Words.{IsLone, Knows, no_guests, setting_of}
+use Rattle.plain_runs.specs.Words.{IsLone, Knows, no_guests, setting_of, whole_lot}
 use Rattle.plain_runs.proofs.Adding.{Grows, HasAppended, level_here, level_is, some_room, took_right}
 use Rattle.plain_runs.proofs.Ending.{lacks_right}
 use Rattle.plain_runs.proofs.Growth.{append_on, append_stops, published_is, publish_large}
 use Rattle.plain_runs.proofs.Halting.{HasHalted, halts_right}
 use Rattle.plain_runs.proofs.Publishing.{HasRunShort, short_right}
-use Rattle.plain_runs.proofs.Reserving.{ClaimStays, IsReadied}
+use Rattle.plain_runs.proofs.Reserving.{ClaimStays, IsReadied, ready_whole}
 
 module _ {C O : Type 0} (tells : Bool) (state : C → CellState) (offers : O → Offers) (st : Store C O) (lone : IsLone (basis tells state offers st)) (rename : ℕ → ℕ) (t : ℕ) where
   abbrev g : Ground (List ℕ)
@@ -63,8 +63,8 @@ module _ {C O : Type 0} (tells : Bool) (state : C → CellState) (offers : O →
       → x.life ≡ Growing → HasRunShort g lone rename t below e v u p ps end rs q.hand store → Halts g t u (view q) → HasGivenUp q e.anchor store
   given_up_so below v u q p store e x ps end rs plain_is there grows h halts = record { knows = done.knows; hand_is = h.readied.hand_is; free = done.free }
     where
-      done : HasHalted g lone rename t below u (view q) e.anchor store
-      done = halts_right g lone rename t below u (view q) store q.hand x (record (writer_as g e ps end rs) { claim = h.claim }) h.readied h.tab (ap (λ (xs : List PlainTab). get_or xs t plain.Free) h.stays.tabs ∙ plain_is)
+      done : HasHalted g rename whole_lot t below u (view q) e.anchor store
+      done = halts_right g rename whole_lot t below u (view q) store x (record (writer_as g e ps end rs) { claim = h.claim }) (ready_whole g lone rename t u store q.hand h.readied) refl h.tab (ap (λ (xs : List PlainTab). get_or xs t plain.Free) h.stays.tabs ∙ plain_is)
           (ap (λ (o : PlaceOf). o.entry) h.stays.place ∙ there) grows halts
 
   -- The publishing of a full slot was refused, for this cause.
@@ -101,8 +101,8 @@ module _ {C O : Type 0} (tells : Bool) (state : C → CellState) (offers : O →
       gave_up = record { knows = done.knows; hand_is = ap (hand_in g.setting.anchors) n.stopped.1 ∙ ready.hand_is; free = done.free };
     }
       where
-        done : HasHalted g lone rename t below (view pass) (view q) e.anchor p
-        done = halts_right g lone rename t below (view pass) (view q) p pass.hand x (writer_as g e ps h.writes.end (slots_of_link h.writes.end)) ready h.writes.rests.is plain_is h.there h.grows
+        done : HasHalted g rename whole_lot t below (view pass) (view q) e.anchor p
+        done = halts_right g rename whole_lot t below (view pass) (view q) p x (writer_as g e ps h.writes.end (slots_of_link h.writes.end)) (ready_whole g lone rename t (view pass) p pass.hand ready) refl h.writes.rests.is plain_is h.there h.grows
             (subst (λ (z : View (List ℕ)). Halts g t z (view q)) n.stopped.0 n.halts)
     not_appended_right write.Full bytes ne n = record {
       refusal = Full;
