@@ -35,6 +35,7 @@ pub mod Beginning
 pub mod BeginLines
 pub mod Growth
 pub mod Published
+pub mod Roomed
 pub mod Reserving
 pub mod Publishing
 pub mod Flushing

@@ -74,7 +74,6 @@ module _ {C O : Type 0} (tells : Bool) (state : C → CellState) (offers : O →
         (λ (low : t ≤ 8). false≢true (sym (ap core.is_free (ap (core.tab_at (view p)) (let z : t ≡ inner = omega arith in sym z) ∙ e)) ∙ h.inner_free))
         (cases_lt 8 t))
         (cases_lt t 8)
-
       where
         at_last : (x : core_tab.Tab (List ℕ)) → x ≡ core_tab.Tab.Last b → (core.is_free x ≡ false → lot.anchors (core.anchor_of x) ≡ false) → ⊥
         at_last x is away = let z = subst (λ (y : core_tab.Tab (List ℕ)). core.is_free y ≡ false → lot.anchors (core.anchor_of y) ≡ false) is away in

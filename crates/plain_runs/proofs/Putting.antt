@@ -33,12 +33,13 @@ use Rattle.store_serve.specs.Storing.{NotPut, PutWhole, StaysUnlessBegun}
 use Rattle.store_serve.specs.declared.storing.PutFault.{PutFault}
 use Rattle.store_serve.specs.declared.storing.PutFault.TheVariants.{Begin, Write}
 use Rattle.worker_shelf.specs.Typed.{IsTyped}
-use Rattle.plain_runs.specs.Words.{IsLone, setting_of}
+use Rattle.plain_runs.specs.Words.{IsLone, setting_of, whole_lot}
 use Rattle.plain_runs.specs.Shows.{Shows, ShowsTab, ShowsWriting}
 use Rattle.plain_runs.proofs.BeginLines.{IsBegun, NotBegun, is_begun, not_begun, put_ends, put_refused}
+use Rattle.plain_runs.proofs.OwnAnchors.{lot_lone}
 use Rattle.plain_runs.proofs.Giving.{IsGiven, began_others, ends_so, quiet}
 use Rattle.plain_runs.proofs.ShowingOthers.{within_whole}
-use Rattle.plain_runs.proofs.Reserving.{IsReadied, quiet_on}
+use Rattle.plain_runs.proofs.Reserving.{IsReadied, supply_on}
 
 module _ {C O : Type 0} (tells : Bool) (state : C → CellState) (offers : O → Offers) (st : Store C O) (lone : IsLone (basis tells state offers st)) (rename : ℕ → ℕ) (below : 7 < 8) (pass q : Pass C) (p : Plain) (a : Answer)
     (h : Shows tells state offers st rename pass p) (free : plain_tab p 7 ≡ plain.Free) (fair : is_fault a ≡ false) (offer : ℕ) (url : List ℕ) (body : Body) (durable : Bool) (offered : IsOffered tells state offers st offer url body) (next : rename (p.counter + 1) ≡ p.counter + 1) where
@@ -58,20 +59,22 @@ module _ {C O : Type 0} (tells : Bool) (state : C → CellState) (offers : O →
   begun = taken_by 7 at entry p
 
   abbrev Given : Step → Type 0
-  Given made = IsGiven tells state offers st lone rename 7 below a q made
+  Given made = IsGiven tells state offers st whole_lot rename 7 below a q made
 
   -- An entry was begun. Where the hand stayed, it is ended as by the plain store.
   module _ (middle : Pass C) (version : ℕ) (b : Began tells state offers st 7 offer url durable pass middle version) (hand : middle.hand ≡ pass.hand) where
     one_begun : IsBegun tells state offers st rename lone pass p h 7 free below offer url body offered version middle
     one_begun = is_begun tells state offers st rename lone pass p h 7 free below offer url body offered durable version middle next b
 
-    ready : IsReadied g lone rename 7 (view middle) begun middle.hand
+    ready : IsReadied g whole_lot rename 7 at (view middle) begun middle.hand
     ready = record {
       knows = one_begun.knows;
       stands = b.writes.rests.own.stands;
       pass = pass_of middle;
       inner_free = b.writes.rests.inner_free;
-      quiet = quiet_on 7 (view pass) (view middle) (quiet tells state offers st lone rename 7 below pass p h) (began_others tells state offers st lone rename 7 below pass middle offer version url durable b);
+      owns = lot_lone g lone whole_lot (view middle).pass;
+      supply = supply_on g whole_lot 7 at (view pass) (view middle) begun (began_others tells state offers st whole_lot rename 7 below pass middle offer version url durable b)
+          (inl record { lone = lone; whole = refl; quiet = quiet tells state offers st rename 7 pass p h });
       hand_is = ap (hand_in g.setting.anchors) hand ∙ h.hand;
       eight = length-set p.tabs 7 (plain.Writing at) ∙ h.eight;
     }
@@ -98,7 +101,7 @@ module _ {C O : Type 0} (tells : Bool) (state : C → CellState) (offers : O →
 
     given_end : EndsEntry tells state offers st 7 middle a q (begun_as tells state offers st 7 offer url durable pass middle version) → Given (put s url (bytes_of body) offer p)
     unfolding shown
-    given_end e = subst Given (sym (put_ends s url (bytes_of body) offer p free (p.counter + 1) begun one_begun.begins_is)) (ends_so tells state offers st lone rename 7 below middle begun ready at writes shown a q fair e)
+    given_end e = subst Given (sym (put_ends s url (bytes_of body) offer p free (p.counter + 1) begun one_begun.begins_is)) (ends_so tells state offers st whole_lot rename 7 below middle begun at writes shown ready refl a q fair e)
 
   pub puts_right : IsTyped a → Puts tells state offers st url pass a q offer durable → Given (put s url (bytes_of body) offer p)
   puts_right typed d = of_outcome d.outcome d.answer_is d.stored d.refused d.stays

@@ -217,9 +217,11 @@ module _ {C O : Type 0} (tells : Bool) (state : C → CellState) (offers : O →
       within = λ j lt own. dite (ℕ_discrete j t)
           (λ e. subst (λ (n : ℕ). IsWithin lot (tab_at p' n)) (sym e) served.within)
           (λ ne. subst (IsWithin lot) (sym (keeps.tabs j ne)) (h.within j lt own));
-      away = λ j lt no. let ne = another j no in let still = tab_still j ne lt in
-          (keeps.tabs j ne ∙ (h.away j lt no).0, λ used. subst (λ (x : core_tab.Tab (List ℕ)). lot.anchors (core.anchor_of x) ≡ false) (sym still)
-          ((h.away j lt no).1 (ap core.is_free (sym still) ∙ used)));
+      away = λ j lt no. let ne = another j no in let still = tab_still j ne lt in (
+        keeps.tabs j ne ∙ (h.away j lt no).0,
+        λ used. subst (λ (x : core_tab.Tab (List ℕ)). lot.anchors (core.anchor_of x) ≡ false) (sym still)
+            ((h.away j lt no).1 (ap core.is_free (sym still) ∙ used)),
+      );
     }
       where
         another : (j : ℕ) → lot.tabs j ≡ false → j ≢ t
