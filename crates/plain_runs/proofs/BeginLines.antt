@@ -44,7 +44,7 @@ use Rattle.plain_runs.proofs.Beginning.{DrewNext, began_knows, drew_next, looked
 use Rattle.plain_runs.proofs.Frames.{knows_same}
 use Rattle.plain_runs.proofs.Freeing.{FewReaders}
 use Rattle.plain_runs.proofs.OwnAnchors.{OwnsLot, lot_lone}
-use Rattle.plain_runs.proofs.ServedLines.{IsAs}
+use Rattle.plain_runs.proofs.Renamed.{IsAs}
 use Rattle.plain_runs.proofs.ShowingOthers.{within_whole}
 use Rattle.plain_runs.proofs.OwnVersions.{same_answer}
 use Rattle.plain_runs.proofs.PlainWords.{idle_there, readers_fit, vacant_there, word_there}

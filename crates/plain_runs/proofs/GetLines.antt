@@ -40,9 +40,8 @@ use Rattle.plain_runs.specs.Shows.{Shows, ShowsLot, ShowsTab}
 use Rattle.plain_runs.specs.Words.{IsLone, Lot, setting_of, whole_lot}
 use Rattle.plain_runs.proofs.OwnAnchors.{OwnsLot, lot_lone, lot_stays}
 use Rattle.plain_runs.proofs.InnerTabs.{went_inner}
-use Rattle.plain_runs.proofs.ServedLines.{IsAs}
 use Rattle.plain_runs.proofs.Opening.{OpenRight, closed_shows, opened_right, opened_store, other_url, refused_right}
-use Rattle.plain_runs.proofs.Renamed.{IsRenamed, own_step, renamed_step}
+use Rattle.plain_runs.proofs.Renamed.{IsAs, IsRenamed, own_step, renamed_step}
 use Rattle.plain_runs.proofs.Reading.{ReadRight, more_hand, more_long, more_reads, went_right}
 use Rattle.plain_runs.proofs.ShowingOthers.{OneBegins, ShowsOn, within_free}
 

@@ -20,6 +20,7 @@ pub mod OwnVersions
 pub mod OtherTabs
 pub mod ShowingOthers
 pub mod Renamed
+pub mod ShownTabs
 pub mod ServedLines
 pub mod QuietSteps
 pub mod Freeing
@@ -32,6 +33,7 @@ pub mod Rounds
 pub mod Evicting
 pub mod Claims
 pub mod Beginning
+pub mod Renamings
 pub mod BeginLines
 pub mod Growth
 pub mod Published

@@ -48,8 +48,7 @@ use Rattle.plain_runs.proofs.AnchorWords.{closed_knows, opened_knows}
 use Rattle.plain_runs.proofs.Coming.{HasCome, away_judged, came_knows, entry, entry_there, hit_judged, key_hit, keyed_at, keyed_knows, keyed_pass, keyed_tab, other_judged, retreats, shown, version_same}
 use Rattle.plain_runs.proofs.Frames.{knows_same}
 use Rattle.plain_runs.proofs.LeftTabs.{guest_at, none_left_over, parts_right, settle_stays}
-use Rattle.plain_runs.proofs.ServedLines.{IsAs}
-use Rattle.plain_runs.proofs.Renamed.{IsRenamed, own_step, renamed_step}
+use Rattle.plain_runs.proofs.Renamed.{IsAs, IsRenamed, own_step, renamed_step}
 use Rattle.plain_runs.proofs.OwnAnchors.{OwnsLot, lot_lone, lot_stays, pass_stays}
 use Rattle.plain_runs.proofs.QuietSteps.{load_quiet}
 use Rattle.plain_runs.proofs.Reading.{ReadRight, more_hand, more_reads, no_fault, read_offer, went_right}

@@ -41,10 +41,9 @@ use Rattle.plain_runs.specs.Words.{IsLone, KnowsLot, Lot, no_guests, setting_of,
 use Rattle.plain_runs.proofs.AnchorWords.{doom_knows, doomed_there, left_epoch}
 use Rattle.plain_runs.proofs.Coming.{HasCome, away_judged, came_knows, hit_judged, keyed_knows, keyed_pass, keyed_tab, other_judged, retreats, undoomed}
 use Rattle.plain_runs.proofs.LeftTabs.{guest_at, purge_parts_right}
-use Rattle.plain_runs.proofs.ServedLines.{IsAs}
 use Rattle.plain_runs.proofs.Opening.{MissRight, settled}
 use Rattle.plain_runs.proofs.OwnAnchors.{OwnsLot, lot_lone, lot_stays, pass_stays}
-use Rattle.plain_runs.proofs.Renamed.{IsRenamed, own_step, renamed_step}
+use Rattle.plain_runs.proofs.Renamed.{IsAs, IsRenamed, own_step, renamed_step}
 use Rattle.plain_runs.proofs.PlainWords.{readers_fit}
 use Rattle.plain_runs.proofs.ShowingOthers.{within_free}
 

@@ -8,11 +8,15 @@ use Rattle.store_rule.specs.declared.store.Pass.{Pass}
 use Rattle.store_rule.specs.declared.store.Store.{Store}
 use Rattle.store_rule.specs.Ground.{Offers}
 use Rattle.plain_runs.specs.Words.{Lot, whole_lot}
-use Rattle.plain_runs.proofs.ServedLines.{IsAs}
 use Rattle.plain_runs.proofs.OwnVersions.{same_answer}
 use Rattle.plain_runs.proofs.ShowingOthers.{ShowsOn}
 
 module _ {C O : Type 0} (tells : Bool) (state : C → CellState) (offers : O → Offers) (s : Store C O) where
+  -- The answer is that of the plain store's step, and the tab and all that the pass knows is what the step leaves.
+  pub record IsAs (a : Answer) (q : Pass C) (t : ℕ) (made : Step) : Type 0 where
+    pub answered : a ≡ made.answer
+    pub shows : ShowsOn tells state offers s (λ v. v) whole_lot q made.after t
+
   -- The answer has the versions that stand for those of the plain store's step, which leaves what is shown.
   pub record IsRenamed (rename : ℕ → ℕ) (lot : Lot) (a : Answer) (q : Pass C) (t : ℕ) (made : Step) : Type 0 where
     pub answered : a ≡ renamed rename made.answer
@@ -26,5 +30,5 @@ module _ {C O : Type 0} (tells : Bool) (state : C → CellState) (offers : O →
   }
 
   -- where each version stands for itself
-  pub own_step : (a : Answer) (q : Pass C) (t : ℕ) (made : Step) → IsRenamed (λ v. v) whole_lot a q t made → IsAs tells state offers s a q t made
+  pub own_step : (a : Answer) (q : Pass C) (t : ℕ) (made : Step) → IsRenamed (λ v. v) whole_lot a q t made → IsAs a q t made
   own_step a q t made h = record { answered = h.answered ∙ same_answer made.answer; shows = h.shows }

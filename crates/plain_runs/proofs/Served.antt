@@ -32,7 +32,8 @@ use Rattle.plain_runs.specs.Shows.{Shows, ShowsTab}
 use Rattle.plain_runs.specs.Words.{IsLone, setting_of, whole_lot}
 use Rattle.plain_runs.proofs.BeginLines.{begins_as}
 use Rattle.plain_runs.proofs.GetLines.{gets_as}
-use Rattle.plain_runs.proofs.ServedLines.{RequestsRight, free_not_reading, free_not_writing, reads_not_free, reads_not_writing, request_right, writes_not_free, writes_not_reading}
+use Rattle.plain_runs.proofs.ServedLines.{RequestsRight, request_right}
+use Rattle.plain_runs.proofs.ShownTabs.{free_not_reading, free_not_writing, reads_not_free, reads_not_writing, writes_not_free, writes_not_reading}
 use Rattle.plain_runs.proofs.Opening.{closes_as, mores_as, opens_as}
 use Rattle.plain_runs.proofs.OtherTabs.{IsOwn, close_else, give_up_keeps}
 use Rattle.plain_runs.proofs.PurgeLines.{purges_as}
@@ -114,11 +115,11 @@ module _ {C O : Type 0} (tells : Bool) (state : C → CellState) (offers : O →
 
         of_tab : (x : Tab) → tab_at plain t ≡ x → LeavesFree tells state offers s t p q ⊎ LeavesReader tells state offers s t p q ⊎ LeavesWriter tells state offers s t p q → Shows tells state offers s (λ v. v) q (leave t plain)
         of_tab Free is (inl free) = stayed is free.1
-        of_tab Free is (inr (inl reads)) = absurd (free_not_reading tells state offers s p plain h t eighth (shown is) reads.0)
-        of_tab Free is (inr (inr writes)) = absurd (free_not_writing tells state offers s p plain h t eighth (shown is) writes.0)
-        of_tab (Writing anchor) is (inl free) = absurd (writes_not_free tells state offers s p plain h t eighth anchor (shown is) free.0)
-        of_tab (Writing anchor) is (inr (inl reads)) = absurd (writes_not_reading tells state offers s p plain h t eighth anchor (shown is) reads.0)
+        of_tab Free is (inr (inl reads)) = absurd (free_not_reading tells state offers s (λ v. v) p plain t (shown is) reads.0)
+        of_tab Free is (inr (inr writes)) = absurd (free_not_writing tells state offers s (λ v. v) p plain t (shown is) writes.0)
+        of_tab (Writing anchor) is (inl free) = absurd (writes_not_free tells state offers s (λ v. v) p plain t anchor (shown is) free.0)
+        of_tab (Writing anchor) is (inr (inl reads)) = absurd (writes_not_reading tells state offers s (λ v. v) p plain t anchor (shown is) reads.0)
         of_tab (Writing anchor) is (inr (inr writes)) = dropped anchor is writes.1
-        of_tab (Reading anchor given is_other) is (inl free) = absurd (reads_not_free tells state offers s p plain h t eighth anchor given is_other (shown is) free.0)
+        of_tab (Reading anchor given is_other) is (inl free) = absurd (reads_not_free tells state offers s (λ v. v) p plain t anchor given is_other (shown is) free.0)
         of_tab (Reading anchor given is_other) is (inr (inl reads)) = closed anchor given is_other is reads.1
-        of_tab (Reading anchor given is_other) is (inr (inr writes)) = absurd (reads_not_writing tells state offers s p plain h t eighth anchor given is_other (shown is) writes.0)
+        of_tab (Reading anchor given is_other) is (inr (inr writes)) = absurd (reads_not_writing tells state offers s (λ v. v) p plain t anchor given is_other (shown is) writes.0)

@@ -29,7 +29,7 @@ use Rattle.plain_runs.specs.Words.{IsLone, setting_of, whole_lot}
 use Rattle.plain_runs.specs.Shows.{Shows}
 use Rattle.plain_runs.proofs.Giving.{IsGiven, adds_right, counted_supply, drops_right, ends_right}
 use Rattle.plain_runs.proofs.OwnAnchors.{lot_lone}
-use Rattle.plain_runs.proofs.ServedLines.{IsAs}
+use Rattle.plain_runs.proofs.Renamed.{IsAs}
 use Rattle.plain_runs.proofs.OwnVersions.{same_answer}
 use Rattle.plain_runs.proofs.Putting.{puts_right}
 
