@@ -20,7 +20,7 @@ use Rattle.plain_laws.proofs.Course.{first, further}
 use Rattle.plain_laws.proofs.Running.{not_at, room_at_rest, all_needed}
 use Rattle.plain_laws.proofs.Agreeing.{Agree}
 use Rattle.plain_laws.proofs.OwnLines.{Sorts}
-use Rattle.plain_laws.proofs.ServedAlone.{served_by}
+use Rattle.plain_laws.proofs.ServedAlone.{told_in_turn}
 use Rattle.plain_laws.proofs.Leaving.{tabs_left}
 use Rattle.plain_laws.proofs.Parted.{drawn, drawn_rise, AllSorted, Parts, parts}
 use Rattle.plain_laws.proofs.Standing.{standing, standing_is, standing_stands, none_kept}
@@ -104,7 +104,12 @@ pub answered_alone : (s : Setting) (script : List Line) (worker : ℕ) (p : Plai
     → Fits s (lines_for worker script) p → TabsApart s script worker → AnswersAlone s script worker p
 answered_alone s script worker p room some slots are rest counts fits apart =
     record {
-      served = served_by s script worker p (answers_of s script worker p) rename is both.answered;
+      served = record {
+        rename = rename;
+        is = is;
+        answered = both.answered;
+        in_turn = told_in_turn s script worker p (answers_of s script worker p) rename both.answered;
+      };
       places = both.agree.places;
       left = (tabs_left rename own mine s (most_held s lines p) (range_with_len 0 8) (after s script lines p) (after s script (private_lines s script worker) p) both.agree both.room).places;
     }

@@ -11,14 +11,20 @@ use Rattle.plain_laws.specs.Private.{IsServedAlone, answers_to, is_private, priv
 use Rattle.plain_laws.proofs.Course.{versions_rise}
 use Rattle.plain_laws.proofs.InTurn.{begun_renamed}
 
--- answers that are the plain store's but for versions begin versions that stand for one another in turn
+-- answers that are the plain store's but for versions tell of versions that stand for one another in turn
+pub told_in_turn : (s : Setting) (script : List Line) (worker : ℕ) (p : Plain) (given : List Answer) (rename : ℕ → ℕ)
+    → answers_to (is_private s script worker) (lines_for worker script) given ≡ map (renamed rename) (answers s script (private_lines s script worker) p)
+    → begun (private_lines s script worker) (answers_to (is_private s script worker) (lines_for worker script) given) ≡ map rename (begun (private_lines s script worker) (answers s script (private_lines s script worker) p))
+told_in_turn s script worker p given rename answered =
+    ap (begun (private_lines s script worker)) answered ∙ begun_renamed rename (private_lines s script worker) (answers s script (private_lines s script worker) p)
+
 pub served_by : (s : Setting) (script : List Line) (worker : ℕ) (p : Plain) (given : List Answer) (rename : ℕ → ℕ) → IsRenaming p.counter rename
     → answers_to (is_private s script worker) (lines_for worker script) given ≡ map (renamed rename) (answers s script (private_lines s script worker) p) → IsServedAlone s script worker p given
 served_by s script worker p given rename is answered = record {
   rename = rename;
   is = is;
   answered = answered;
-  in_turn = ap (begun (private_lines s script worker)) answered ∙ begun_renamed rename (private_lines s script worker) (answers s script (private_lines s script worker) p);
+  in_turn = told_in_turn s script worker p given rename answered;
 }
 
 -- versions that rise stand for ones that rise

@@ -171,6 +171,7 @@ module _ {C O : Type 0} (tells : Bool) (state : C → CellState) (offers : O →
   -- An entry was begun, with the next version.
   pub record IsBegun (version : ℕ) (q : Pass C) : Type 0 where
     pub version_is : version ≡ rename (p.counter + 1)
+    pub open_to : (is_vacant_at p a || is_idle_at p a) ≡ true
     pub begins_is : begins ≡ step (answer.Begun (p.counter + 1)) (taken_by t a (entry_of url (bytes_of body) offer) p)
     pub knows : KnowsLot g rename lot (view q) (taken_by t a (entry_of url (bytes_of body) offer) p) no_guests
     pub tab : ShowsWriting tells state offers s rename q (taken_by t a (entry_of url (bytes_of body) offer) p) t a
@@ -179,6 +180,7 @@ module _ {C O : Type 0} (tells : Bool) (state : C → CellState) (offers : O →
   pub is_begun : (durable : Bool) (version : ℕ) (q : Pass C) (b : Began tells state offers s t offer url durable pass q version) → DrewNext g lot rename b.took.took.drawn version p no_guests → IsBegun version q
   is_begun durable version q b d = record {
     version_is = d.version_is;
+    open_to = took_open g lot rename t a b.n version (view pass) b.middle shows.inner_free p owns ours shows.knows few free inside_tabs b.took d;
     begins_is = begin_begun (setting_of g) t url (bytes_of body) offer p short
         (took_open g lot rename t a b.n version (view pass) b.middle shows.inner_free p owns ours shows.knows few free inside_tabs b.took d) d.left;
     knows = began_knows g lot rename t a b.n version (view pass) b.middle shows.inner_free p owns ours shows.knows few free inside_tabs b.took d offer url (bytes_of body) response offered.from refl (view q) b.named;

@@ -47,6 +47,8 @@ pub mod Ending
 pub mod Stopping
 pub mod Giving
 pub mod Putting
+pub mod LotRequests
+pub mod LotLines
 pub mod WritingLines
 pub mod Bodies
 pub mod Judging
