@@ -59,4 +59,5 @@ pub mod InnerTabs
 pub mod Opening
 pub mod GetLines
 pub mod PurgeLines
+pub mod LeavingLots
 pub mod Served

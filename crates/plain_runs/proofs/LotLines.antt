@@ -68,11 +68,12 @@ module _ {C O : Type 0} (tells : Bool) (state : C → CellState) (offers : O →
   abbrev setting : Setting
   setting = setting_of g
 
-  -- The answer to a line is that of this step of the plain store, by names that agree with those before, and the pass shows what the step leaves of the lot.
+  -- The answer to a line is that of this step of the plain store, by names that agree with those before and by all that agree with them then, and the
+  -- pass shows what the step leaves of the lot.
   pub record LotServed (rename : ℕ → ℕ) (a : Answer) (q : Pass C) (plain : Plain) (made : Step) : Type 0 where
     pub names : ℕ → ℕ
     pub agrees : Agrees plain.counter rename names
-    pub answered : a ≡ renamed names made.answer
+    pub answered : (other : ℕ → ℕ) → Agrees made.after.counter names other → a ≡ renamed other made.answer
     pub shows : ShowsLot tells state offers s names q made.after lot
     pub fit : IsFitting g lot cap names (view q) made.after
 
@@ -83,8 +84,8 @@ module _ {C O : Type 0} (tells : Bool) (state : C → CellState) (offers : O →
     after_all t made below mine leaves so keeps room counts = record {
       names = so.names;
       agrees = so.agrees;
-      answered = so.served.answered;
-      shows = shows_after tells state offers s so.names begins stays lot p q plain made.after t owns (shows_renamed tells state offers s rename so.names p plain fit.counts so.agrees lot h) leaves keeps so.served.shows below mine;
+      answered = λ other agrees. (so.served other agrees).answered;
+      shows = shows_after tells state offers s so.names begins stays lot p q plain made.after t owns (shows_renamed tells state offers s rename so.names p plain fit.counts so.agrees lot h) leaves keeps (so.served so.names (λ n le. refl)).shows below mine;
       fit = record {
         fits_is = fit.fits_is;
         apart = fit.apart;
@@ -97,26 +98,27 @@ module _ {C O : Type 0} (tells : Bool) (state : C → CellState) (offers : O →
     }
 
     -- of a request that gives out no version
-    still : (t : ℕ) (made : Step) → Leaves tells state offers s t p q → made.after.counter ≡ plain.counter → IsRenamed tells state offers s rename lot a q t made → IsServedSo tells state offers s lot rename a q t plain made
-    still t made leaves same served = still_served tells state offers s lot rename a q t plain made (view p) fit.is fit.newest leaves.keeps same served
+    still : (t : ℕ) (made : Step) → Leaves tells state offers s t p q → made.after.counter ≡ plain.counter → ((other : ℕ → ℕ) → ShowsLot tells state offers s other p plain lot → IsRenamed tells state offers s other lot a q t made) → IsServedSo tells state offers s lot rename a q t plain made
+    still t made leaves same served = still_served tells state offers s lot rename a q t plain made (view p) fit.is fit.newest leaves.keeps same
+        (λ other agrees. served other (shows_renamed tells state offers s rename other p plain fit.counts agrees lot h))
 
-    given_still : (t : ℕ) (below : t < 8) (made : Step) → IsGiven tells state offers s lot rename t below a q made → IsRenamed tells state offers s rename lot a q t made
-    given_still t below made k = record { answered = k.answered; shows = k.shows }
+    given_still : (other : ℕ → ℕ) (t : ℕ) (below : t < 8) (made : Step) → IsGiven tells state offers s lot other t below a q made → IsRenamed tells state offers s other lot a q t made
+    given_still other t below made k = record { answered = k.answered; shows = k.shows }
 
     -- a tab that is turned away changed nothing
-    turned_away : (t : ℕ) (made : Step) → t < 8 → lot.tabs t ≡ true → IsTurnedAway p a q → made ≡ step answer.Tab plain → IsRenamed tells state offers s rename lot a q t made
-    turned_away t made below mine away is = record {
-      answered = away.answered ∙ ap (λ (m : Step). renamed rename m.answer) (sym is);
-      shows = subst (λ (x : Plain). ShowsOn tells state offers s rename lot q x t) (ap (λ (m : Step). m.after) (sym is))
-          (subst (λ (x : Pass C). ShowsOn tells state offers s rename lot x plain t) (sym away.still) record { knows = h.knows; hand = h.hand; tab = h.tabs t below mine; within = h.within t below mine });
+    turned_away : (other : ℕ → ℕ) → ShowsLot tells state offers s other p plain lot → (t : ℕ) (made : Step) → t < 8 → lot.tabs t ≡ true → IsTurnedAway p a q → made ≡ step answer.Tab plain → IsRenamed tells state offers s other lot a q t made
+    turned_away other k t made below mine away is = record {
+      answered = away.answered ∙ ap (λ (m : Step). renamed other m.answer) (sym is);
+      shows = subst (λ (x : Plain). ShowsOn tells state offers s other lot q x t) (ap (λ (m : Step). m.after) (sym is))
+          (subst (λ (x : Pass C). ShowsOn tells state offers s other lot x plain t) (sym away.still) record { knows = k.knows; hand = k.hand; tab = k.tabs t below mine; within = k.within t below mine });
     }
 
     abbrev offer : ℕ
     offer = offer_of tells state offers s number
 
     -- slots for what a tab of the lot writes
-    supplied : (t : ℕ) → (at : ℕ) → t < 8 → lot.tabs t ≡ true → tab_at plain t ≡ Writing at → (w : ShowsWriting tells state offers s rename p plain t at) → Supply g lot t w.written.anchor (view p) plain
-    supplied t at below mine is w = inr (ample g cap w.written.anchor plain w.entry fit.fits_is fit.room (ap (entry_at plain) w.anchor_is ∙ w.there) w.grows)
+    supplied : (other : ℕ → ℕ) (t at : ℕ) (w : ShowsWriting tells state offers s other p plain t at) → Supply g lot t w.written.anchor (view p) plain
+    supplied other t at w = inr (ample g cap w.written.anchor plain w.entry fit.fits_is fit.room (ap (entry_at plain) w.anchor_is ∙ w.there) w.grows)
 
     abbrev served_step : Request → Step
     served_step request = serve setting script record { worker = 1; number = number; request = request } plain
@@ -140,47 +142,48 @@ module _ {C O : Type 0} (tells : Bool) (state : C → CellState) (offers : O →
             (puts_so tells state offers s lot cap rename p q plain a owns h fit (omega arith) free fair offer url body true asks of.of (leaves 7 refl).keeps (need_here setting cap url (bytes_of body) needs) typed some served)
             (put_keeps setting plain url (bytes_of body) offer) room counts
         of_request (Get url) of needs asks served leaves room counts = after_all 7 _ (omega arith) whole (leaves 7 refl)
-            (still 7 _ (leaves 7 refl) (keeps_get setting url plain).counter (gets_right tells state offers s rename lot begins known file from sized url p q plain owns h of.of a free typed fair served.stays served))
+            (still 7 _ (leaves 7 refl) (keeps_get setting url plain).counter
+            (λ other k. gets_right tells state offers s other lot begins known file from sized url p q plain owns k of.of a free typed fair served.stays served))
             (get_else setting plain (IsOwn 7 plain) url) room counts
         of_request (Purge url) of needs asks served leaves room counts = after_all 7 _ (omega arith) whole (leaves 7 refl)
-            (still 7 _ (leaves 7 refl) (keeps_purge setting url plain).counter (purges_right tells state offers s rename lot url p plain owns h of.of whole a q free typed served.stays served))
+            (still 7 _ (leaves 7 refl) (keeps_purge setting url plain).counter (λ other k. purges_right tells state offers s other lot url p plain owns k of.of whole a q free typed served.stays served))
             (purge_else 7 (IsOwn 7 plain) setting plain url) room counts
-        of_request (Begin t url body) of needs asks served leaves room counts = let low : t < 8 = let b = asks.0 in omega arith in let turned = turned_away t _ low of.of in after_all t _ low of.of (leaves t refl)
+        of_request (Begin t url body) of needs asks served leaves room counts = let low : t < 8 = let b = asks.0 in omega arith in after_all t _ low of.of (leaves t refl)
             (of_free tells state offers s rename p plain t (h.tabs t low of.of) a q _ served
             (λ is met. begins_so tells state offers s lot cap rename p plain owns h fit t is low offer url body asks.1 of.names a q some met typed met.stays (leaves t refl).keeps)
-            (λ at is away. still t _ (leaves t refl) (rw is refl) (turned away (rw is refl)))
-            (λ at given is_other is away. still t _ (leaves t refl) (rw is refl) (turned away (rw is refl))))
+            (λ at is away. still t _ (leaves t refl) (rw is refl) (λ other k. turned_away other k t _ low of.of away (rw is refl)))
+            (λ at given is_other is away. still t _ (leaves t refl) (rw is refl) (λ other k. turned_away other k t _ low of.of away (rw is refl))))
             (begin_keeps setting plain t url (bytes_of body) offer) room counts
-        of_request (Add t count) of needs asks served leaves room counts = let low : t < 8 = omega arith in let turned = turned_away t _ low of.of in after_all t _ low of.of (leaves t refl)
-            (still t _ (leaves t refl) (keeps_add setting t count plain (tab_at plain t) refl).counter (of_writer tells state offers s rename p plain t (h.tabs t low of.of) a q _ served
-            (λ at is met. let w = subst (ShowsTab tells state offers s rename p plain t) is (h.tabs t low of.of) in given_still t low _ (adds_right tells state offers s lot rename t low p q plain a owns h of.of at is (supplied t at low of.of is _) count fair met))
-            (λ is away. turned away (rw is refl)) (λ at given is_other is away. turned away (rw is refl))))
+        of_request (Add t count) of needs asks served leaves room counts = let low : t < 8 = omega arith in after_all t _ low of.of (leaves t refl)
+            (still t _ (leaves t refl) (keeps_add setting t count plain (tab_at plain t) refl).counter (λ other k. of_writer tells state offers s other p plain t (k.tabs t low of.of) a q _ served
+            (λ at is met. given_still other t low _ (adds_right tells state offers s lot other t low p q plain a owns k of.of at is (supplied other t at _) count fair met))
+            (λ is away. turned_away other k t _ low of.of away (rw is refl)) (λ at given is_other is away. turned_away other k t _ low of.of away (rw is refl))))
             (add_keeps t setting plain count) room counts
-        of_request (End t) of needs asks served leaves room counts = let low : t < 8 = omega arith in let turned = turned_away t _ low of.of in after_all t _ low of.of (leaves t refl)
-            (still t _ (leaves t refl) (keeps_end setting t plain (tab_at plain t) refl).counter (of_writer tells state offers s rename p plain t (h.tabs t low of.of) a q _ served
-            (λ at is met. given_still t low _ (ends_right tells state offers s lot rename t low p q plain a owns h of.of at is (supplied t at low of.of is _) fair met))
-            (λ is away. turned away (rw is refl)) (λ at given is_other is away. turned away (rw is refl))))
+        of_request (End t) of needs asks served leaves room counts = let low : t < 8 = omega arith in after_all t _ low of.of (leaves t refl)
+            (still t _ (leaves t refl) (keeps_end setting t plain (tab_at plain t) refl).counter (λ other k. of_writer tells state offers s other p plain t (k.tabs t low of.of) a q _ served
+            (λ at is met. given_still other t low _ (ends_right tells state offers s lot other t low p q plain a owns k of.of at is (supplied other t at _) fair met))
+            (λ is away. turned_away other k t _ low of.of away (rw is refl)) (λ at given is_other is away. turned_away other k t _ low of.of away (rw is refl))))
             (end_keeps t setting plain) room counts
-        of_request (DropTab t) of needs asks served leaves room counts = let low : t < 8 = omega arith in let turned = turned_away t _ low of.of in after_all t _ low of.of (leaves t refl)
-            (still t _ (leaves t refl) (keeps_give_up setting t plain (tab_at plain t) refl).counter (of_writer tells state offers s rename p plain t (h.tabs t low of.of) a q _ served
-            (λ at is met. given_still t low _ (drops_right tells state offers s lot rename t low p q plain a owns h of.of at is met.stays met))
-            (λ is away. turned away (rw is refl)) (λ at given is_other is away. turned away (rw is refl))))
+        of_request (DropTab t) of needs asks served leaves room counts = let low : t < 8 = omega arith in after_all t _ low of.of (leaves t refl)
+            (still t _ (leaves t refl) (keeps_give_up t plain (tab_at plain t) refl).counter (λ other k. of_writer tells state offers s other p plain t (k.tabs t low of.of) a q _ served
+            (λ at is met. given_still other t low _ (drops_right tells state offers s lot other t low p q plain a owns k of.of at is met.stays met))
+            (λ is away. turned_away other k t _ low of.of away (rw is refl)) (λ at given is_other is away. turned_away other k t _ low of.of away (rw is refl))))
             (give_up_keeps t setting plain) room counts
-        of_request (OpenTab t url) of needs asks served leaves room counts = let low : t < 8 = let b = asks.0 in omega arith in let turned = turned_away t _ low of.of in after_all t _ low of.of (leaves t refl)
-            (still t _ (leaves t refl) (keeps_open setting t url plain (tab_at plain t) refl).counter (of_free tells state offers s rename p plain t (h.tabs t low of.of) a q _ served
-            (λ is met. opens_right tells state offers s rename lot t url p plain owns h of.names low a q is typed met.stays met)
-            (λ at is away. turned away (rw is refl)) (λ at given is_other is away. turned away (rw is refl))))
+        of_request (OpenTab t url) of needs asks served leaves room counts = let low : t < 8 = let b = asks.0 in omega arith in after_all t _ low of.of (leaves t refl)
+            (still t _ (leaves t refl) (keeps_open setting t url plain (tab_at plain t) refl).counter (λ other k. of_free tells state offers s other p plain t (k.tabs t low of.of) a q _ served
+            (λ is met. opens_right tells state offers s other lot t url p plain owns k of.names low a q is typed met.stays met)
+            (λ at is away. turned_away other k t _ low of.of away (rw is refl)) (λ at given is_other is away. turned_away other k t _ low of.of away (rw is refl))))
             (open_else t (IsOwn t plain) setting plain url) room counts
-        of_request (More t) of needs asks served leaves room counts = let low : t < 8 = omega arith in let turned = turned_away t _ low of.of in after_all t _ low of.of (leaves t refl)
-            (still t _ (leaves t refl) (keeps_more setting t plain (tab_at plain t) refl).counter (of_reader tells state offers s rename p plain t (h.tabs t low of.of) a q _ served
-            (λ at given is_other is met. let r = subst (ShowsTab tells state offers s rename p plain t) is (h.tabs t low of.of) in
-            mores_right tells state offers s rename lot t at given is_other p q a plain low owns h of.of is begins known file from sized fair (met r.standing r.reads).stays met)
-            (λ is away. turned away (rw is refl)) (λ at is away. turned away (rw is refl))))
+        of_request (More t) of needs asks served leaves room counts = let low : t < 8 = omega arith in after_all t _ low of.of (leaves t refl)
+            (still t _ (leaves t refl) (keeps_more setting t plain (tab_at plain t) refl).counter (λ other k. of_reader tells state offers s other p plain t (k.tabs t low of.of) a q _ served
+            (λ at given is_other is met. let r = subst (ShowsTab tells state offers s other p plain t) is (k.tabs t low of.of) in
+            mores_right tells state offers s other lot t at given is_other p q a plain low owns k of.of is begins known file from sized fair (met r.standing r.reads).stays met)
+            (λ is away. turned_away other k t _ low of.of away (rw is refl)) (λ at is away. turned_away other k t _ low of.of away (rw is refl))))
             (more_else t (IsOwn t plain) setting plain) room counts
-        of_request (CloseTab t) of needs asks served leaves room counts = let low : t < 8 = omega arith in let turned = turned_away t _ low of.of in after_all t _ low of.of (leaves t refl)
-            (still t _ (leaves t refl) (keeps_close setting t plain (tab_at plain t) refl).counter (of_reader tells state offers s rename p plain t (h.tabs t low of.of) a q _ served
-            (λ at given is_other is met. closes_right tells state offers s rename lot t at given is_other p q a plain low owns h of.of is met.stays met)
-            (λ is away. turned away (rw is refl)) (λ at is away. turned away (rw is refl))))
+        of_request (CloseTab t) of needs asks served leaves room counts = let low : t < 8 = omega arith in after_all t _ low of.of (leaves t refl)
+            (still t _ (leaves t refl) (keeps_close t plain (tab_at plain t) refl).counter (λ other k. of_reader tells state offers s other p plain t (k.tabs t low of.of) a q _ served
+            (λ at given is_other is met. closes_right tells state offers s other lot t at given is_other p q a plain low owns k of.of is met.stays met)
+            (λ is away. turned_away other k t _ low of.of away (rw is refl)) (λ at is away. turned_away other k t _ low of.of away (rw is refl))))
             (close_else t (IsOwn t plain) setting plain) room counts
         of_request (Mark mark) of needs asks served leaves room counts = absurd served
         of_request (Await mark) of needs asks served leaves room counts = absurd served

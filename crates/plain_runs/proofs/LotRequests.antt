@@ -2,6 +2,7 @@
 use Rattle.std.proofs.Common.{Bool, Contains, IsTrue, List, None, Option, Some, ap, arith, false, get_or, get_or-set_same, inl, inr, length, refl, set, subst, sym, true, ◌+◌, ◌<◌, ◌∙◌, ◌≡◌, ◌≢◌, ◌≤◌, ◌⊎◌, ℕ}
 use Rattle.std.specs.Prelude.{Err, IfErr, IfOk, Ok, OnErr, Result, nat_lt, ◌||◌, ◌↔◌}
 use Rattle.std.proofs.lemmas.Bool.Decides.{nat_tests}
+use Rattle.lock_word.specs.Words.{version_limit}
 use Rattle.rock_disk.specs.Cell.{CellState}
 use Rattle.store_key.specs.Anchor.{anchor_of}
 use Rattle.store_key.specs.Key.{key_of}
@@ -59,7 +60,7 @@ use Rattle.plain_runs.proofs.Giving.{IsGiven}
 use Rattle.plain_runs.proofs.OwnAnchors.{OwnsLot}
 use Rattle.plain_runs.proofs.Putting.{given_end, given_refused}
 use Rattle.plain_runs.proofs.Renamed.{IsRenamed, renamed_step}
-use Rattle.plain_runs.proofs.Renamings.{Agrees, IsNewest, drew_it, drew_named, goes_on, goes_on_agrees, goes_on_next, newest_below, newest_on, shows_renamed}
+use Rattle.plain_runs.proofs.Renamings.{Agrees, IsNewest, drew_it, drew_named, goes_on, goes_on_agrees, goes_on_next, newest_below, newest_on, not_less, shows_renamed}
 use Rattle.plain_runs.proofs.Reserving.{IsAmple, Supply}
 use Rattle.plain_runs.proofs.ShowingOthers.{within_free}
 
@@ -87,23 +88,24 @@ ample g cap a p x fits_is room there grows = record {
 }
 
 module _ {C O : Type 0} (tells : Bool) (state : C → CellState) (offers : O → Offers) (s : Store C O) (lot : Lot) where
-  -- A request is answered as by this step of the plain store, by names that agree with those before on all versions that were given out.
+  -- A request is answered as by this step of the plain store, by names that agree with those before on all versions that were given out, and by all
+  -- names that agree with them then.
   pub record IsServedSo (rename : ℕ → ℕ) (a : Answer) (q : Pass C) (t : ℕ) (p : Plain) (made : Step) : Type 0 where
     pub names : ℕ → ℕ
     pub agrees : Agrees p.counter rename names
     pub is : IsRenaming (opening_counter (basis tells state offers s).setting) names
-    pub served : IsRenamed tells state offers s names lot a q t made
+    pub served : (other : ℕ → ℕ) → Agrees made.after.counter names other → IsRenamed tells state offers s other lot a q t made
     pub least : p.counter ≤ made.after.counter
     pub newest : IsNewest (basis tells state offers s) names (view q) made.after.counter
 
   -- One that gives out no version.
   pub still_served : (rename : ℕ → ℕ) (a : Answer) (q : Pass C) (t : ℕ) (p : Plain) (made : Step) (v : View (List ℕ)) → IsRenaming (opening_counter (basis tells state offers s).setting) rename → IsNewest (basis tells state offers s) rename v p.counter
-      → KnowsAll v (view q) → made.after.counter ≡ p.counter → IsRenamed tells state offers s rename lot a q t made → IsServedSo rename a q t p made
+      → KnowsAll v (view q) → made.after.counter ≡ p.counter → ((other : ℕ → ℕ) → Agrees p.counter rename other → IsRenamed tells state offers s other lot a q t made) → IsServedSo rename a q t p made
   still_served rename a q t p made v is newest keeps same served = record {
     names = rename;
     agrees = λ n le. refl;
     is = is;
-    served = served;
+    served = λ other agrees. served other (λ n le. agrees n (let e = same in omega arith));
     least = let e = same in omega arith;
     newest = subst (IsNewest (basis tells state offers s) rename (view q)) (sym same) (newest_on (basis tells state offers s) rename v (view q) p.counter keeps.trail newest);
   }
@@ -142,15 +144,20 @@ module _ {C O : Type 0} (tells : Bool) (state : C → CellState) (offers : O →
       pub names_agree : Agrees p.counter rename (names_from version)
       names_agree = goes_on_agrees rename p.counter version
 
-      pub shows_so : ShowsLot tells state offers s (names_from version) pass p lot
-      shows_so = shows_renamed tells state offers s rename (names_from version) pass p fit.counts names_agree lot shows
+      below_limit : p.counter < version_limit
+      below_limit = let d = b.took.took.drew in let k = not_less (opening_counter g.setting) rename fit.is p.counter in let a = above in let e = d.version_is in let l = d.left in omega arith
 
-      pub drew_so : DrewNext g lot (names_from version) b.took.took.drawn version p no_guests
-      drew_so = drew_named g lot (opening_counter g.setting) (names_from version) b.took.took.seen b.took.took.drawn version p no_guests fit.apart names_is (goes_on_next rename p.counter version)
-          (seen_knows tells state offers s (names_from version) lot pass p owns shows_so t free below offer url body offered ours durable version q b) b.took.took.drew
+      -- the same by all names that agree with these on what was given out then
+      module _ (other : ℕ → ℕ) (agrees : Agrees (p.counter + 1) (names_from version) other) where
+        pub shows_so : ShowsLot tells state offers s other pass p lot
+        shows_so = shows_renamed tells state offers s rename other pass p fit.counts (λ n le. agrees n (omega arith) ∙ goes_on_agrees rename p.counter version n le) lot shows
 
-      pub begun_so : IsBegun tells state offers s (names_from version) lot pass p owns shows_so t free below offer url body offered ours version q
-      begun_so = is_begun tells state offers s (names_from version) lot pass p owns shows_so t free below offer url body offered ours durable version q b drew_so
+        pub drew_so : DrewNext g lot other b.took.took.drawn version p no_guests
+        drew_so = drew_named g lot other b.took.took.seen b.took.took.drawn version p no_guests fit.apart below_limit (agrees (p.counter + 1) (omega arith) ∙ goes_on_next rename p.counter version)
+            (seen_knows tells state offers s other lot pass p owns shows_so t free below offer url body offered ours durable version q b) b.took.took.drew
+
+        pub begun_so : IsBegun tells state offers s other lot pass p owns shows_so t free below offer url body offered ours version q
+        begun_so = is_begun tells state offers s other lot pass p owns shows_so t free below offer url body offered ours durable version q b drew_so
 
       taken_keeps : KnowsAll b.took.took.drawn b.took.taken
       taken_keeps = by_step b.took.took.takes
@@ -178,33 +185,46 @@ module _ {C O : Type 0} (tells : Bool) (state : C → CellState) (offers : O →
         hand_is : hand_in g.setting.anchors q.hand ≡ p.hand
         hand_is = ap (hand_in g.setting.anchors) hand ∙ shows.hand
 
+        begun_named : (version : ℕ) → given ≡ answer.Begun version → (b : Began tells state offers s t offer url false pass q version)
+            → begin setting t url (bytes_of body) offer p ≡ step (answer.Begun (p.counter + 1)) taken → (other : ℕ → ℕ) → Agrees (p.counter + 1) (names_from version) other
+            → IsRenamed tells state offers s other lot given q t (begin setting t url (bytes_of body) offer p)
+        begun_named version is b e other agrees = let one = begun_so false q version b other agrees in
+            renamed_step tells state offers s other lot given q t (begin setting t url (bytes_of body) offer p) (step (answer.Begun (p.counter + 1)) taken) e (is ∙ ap answer.Begun one.version_is) record {
+              knows = one.knows;
+              hand = hand_is;
+              tab = begun_tab tells state offers s other lot pass p owns (shows_so false q version b other agrees) t free below offer url body offered ours version q one;
+              within = subst (IsWithin lot) (sym (get_or-set_same p.tabs t (Writing a) Free (let n = shows.eight in omega arith))) ours;
+            }
+
+        not_named : (fault : BeginFault) → given ≡ answer_to_refusal fault → NotTaken g t a (view pass) fault (view q) → IsFree q t → (other : ℕ → ℕ) → Agrees p.counter rename other
+            → (begin setting t url (bytes_of body) offer p).after.counter ≡ p.counter × IsRenamed tells state offers s other lot given q t (begin setting t url (bytes_of body) offer p)
+        not_named fault is refused freed other agrees =
+            let shown = shows_renamed tells state offers s rename other pass p fit.counts agrees lot shows in
+            let nb : NotBegun tells state offers s other lot pass p owns shown t free below offer url body offered ours fault q =
+            not_begun tells state offers s other lot pass p owns shown t free below offer url body offered ours fault q (λ versions e. absurd (some versions (is ∙ ap answer_to_refusal e))) refused
+            (subst (λ (z : Answer). (z ≡ answer.LongUrl) ↔ IsTooLong g url) is h.long) (subst IsTyped is typed) in
+            let e = begin_free ∙ nb.begins_is in (
+              ap (λ (z : Step). z.after.counter) e,
+              renamed_step tells state offers s other lot given q t (begin setting t url (bytes_of body) offer p) (step (answer_to_refusal nb.plain_fault) p) e (is ∙ nb.answer_is) record {
+                knows = nb.knows;
+                hand = hand_is;
+                tab = subst (ShowsTab tells state offers s other q p t) (sym free) freed;
+                within = within_free lot (tab_at p t) free;
+              },
+            )
+
         of_outcome : (outcome : Result ℕ BeginFault) → given ≡ answer_to_begin outcome → IfOk outcome (λ version. Began tells state offers s t offer url false pass q version)
             → IfErr outcome (λ fault. NotTaken g t a (view pass) fault (view q)) → OnErr outcome (IsFree q t) → IsServedSo rename given q t p (begin setting t url (bytes_of body) offer p)
-        of_outcome (Ok version) is began refused freed = let b = begun_so false q version began in let e = begin_free ∙ b.begins_is in record {
+        of_outcome (Ok version) is began refused freed = let e = begin_free ∙ (begun_so false q version began (names_from version) (λ n le. refl)).begins_is in record {
           names = names_from version;
           agrees = names_agree false q version began;
           is = names_is false q version began;
-          served = renamed_step tells state offers s (names_from version) lot given q t (begin setting t url (bytes_of body) offer p) (step (answer.Begun (p.counter + 1)) taken) e (is ∙ ap answer.Begun b.version_is) record {
-            knows = b.knows;
-            hand = hand_is;
-            tab = begun_tab tells state offers s (names_from version) lot pass p owns (shows_so false q version began) t free below offer url body offered ours version q b;
-            within = subst (IsWithin lot) (sym (get_or-set_same p.tabs t (Writing a) Free (let n = shows.eight in omega arith))) ours;
-          };
+          served = λ other agrees. begun_named version is began e other (λ n le. agrees n (let k = ap (λ (z : Step). z.after.counter) e in omega arith));
           least = let k = ap (λ (z : Step). z.after.counter) e in omega arith;
           newest = subst (λ (z : Step). IsNewest g (names_from version) (view q) z.after.counter) (sym e) (newest_so false q version began (view q) (stays (view q)));
         }
-        of_outcome (Err fault) is began refused freed =
-            let nb : NotBegun tells state offers s rename lot pass p owns shows t free below offer url body offered ours fault q =
-            not_begun tells state offers s rename lot pass p owns shows t free below offer url body offered ours fault q (λ versions e. absurd (some versions (is ∙ ap answer_to_refusal e))) refused
-            (subst (λ (z : Answer). (z ≡ answer.LongUrl) ↔ IsTooLong g url) is h.long) (subst IsTyped is typed) in
-            let e = begin_free ∙ nb.begins_is in
-            still_served rename given q t p (begin setting t url (bytes_of body) offer p) (view pass) fit.is fit.newest keeps (ap (λ (z : Step). z.after.counter) e)
-            (renamed_step tells state offers s rename lot given q t (begin setting t url (bytes_of body) offer p) (step (answer_to_refusal nb.plain_fault) p) e (is ∙ nb.answer_is) record {
-              knows = nb.knows;
-              hand = hand_is;
-              tab = subst (ShowsTab tells state offers s rename q p t) (sym free) freed;
-              within = within_free lot (tab_at p t) free;
-            })
+        of_outcome (Err fault) is began refused freed = still_served rename given q t p (begin setting t url (bytes_of body) offer p) (view pass) fit.is fit.newest keeps
+            (not_named fault is refused freed rename (λ n le. refl)).0 (λ other agrees. (not_named fault is refused freed other agrees).1)
 
 -- A whole response is stored on the last tab.
 module _ {C O : Type 0} (tells : Bool) (state : C → CellState) (offers : O → Offers) (s : Store C O) (lot : Lot) (cap : ℕ → ℕ) (rename : ℕ → ℕ) (pass q : Pass C) (p : Plain) (given : Answer)
@@ -229,11 +249,9 @@ module _ {C O : Type 0} (tells : Bool) (state : C → CellState) (offers : O →
     names : ℕ → ℕ
     names = renamed_from rename p.counter version
 
-    shown : ShowsLot tells state offers s names pass p lot
-    shown = shows_so tells state offers s lot cap rename pass p owns shows fit 7 free below offer url body offered ours durable middle version b
-
-    one : IsBegun tells state offers s names lot pass p owns shown 7 free below offer url body offered ours version middle
-    one = begun_so tells state offers s lot cap rename pass p owns shows fit 7 free below offer url body offered ours durable middle version b
+    one : IsBegun tells state offers s names lot pass p owns (shows_so tells state offers s lot cap rename pass p owns shows fit 7 free below offer url body offered ours durable middle version b names (λ n le. refl))
+        7 free below offer url body offered ours version middle
+    one = begun_so tells state offers s lot cap rename pass p owns shows fit 7 free below offer url body offered ours durable middle version b names (λ n le. refl)
 
     ended : made ≡ end (setting_of (basis tells state offers s)) 7 begun
     ended = put_ends (setting_of (basis tells state offers s)) url (bytes_of body) offer p free (p.counter + 1) begun one.begins_is
@@ -253,14 +271,19 @@ module _ {C O : Type 0} (tells : Bool) (state : C → CellState) (offers : O →
     supplied = ample h cap (anchor_for h url) begun (entry_of url (bytes_of body) offer) fit.fits_is
         (taken_room (setting_of (basis tells state offers s)) cap 7 url (bytes_of body) offer p fit.room free fitting one.open_to needs) (ap (λ (x : PlaceOf). x.entry) placed) refl
 
+    named_so : (other : ℕ → ℕ) → Agrees (p.counter + 1) (renamed_from rename p.counter version) other → middle.hand ≡ pass.hand
+        → EndsEntry tells state offers s 7 middle given q (begun_as tells state offers s 7 offer url durable pass middle version) → IsRenamed tells state offers s other lot given q 7 made
+    named_so other agrees hand ends = as_renamed other (given_end tells state offers s lot other below pass q p given owns
+        (shows_so tells state offers s lot cap rename pass p owns shows fit 7 free below offer url body offered ours durable middle version b other agrees) free fair offer url body durable offered ours middle version b
+        (drew_so tells state offers s lot cap rename pass p owns shows fit 7 free below offer url body offered ours durable middle version b other agrees) (inr supplied) hand ends)
+
     put_so : KnowsAll (view middle) (view q) → middle.hand ≡ pass.hand → EndsEntry tells state offers s 7 middle given q (begun_as tells state offers s 7 offer url durable pass middle version)
         → IsServedSo tells state offers s lot rename given q 7 p made
     put_so after hand ends = record {
       names = names;
       agrees = names_agree tells state offers s lot cap rename pass p owns shows fit 7 free below offer url body offered ours durable middle version b;
       is = names_is tells state offers s lot cap rename pass p owns shows fit 7 free below offer url body offered ours durable middle version b;
-      served = as_renamed names (given_end tells state offers s lot names below pass q p given owns shown free fair offer url body durable offered ours middle version b
-          (drew_so tells state offers s lot cap rename pass p owns shows fit 7 free below offer url body offered ours durable middle version b) (inr supplied) hand ends);
+      served = λ other agrees. named_so other (λ n le. agrees n (let k = counted in omega arith)) hand ends;
       least = let k = counted in omega arith;
       newest = subst (IsNewest h names (view q)) (sym counted) (newest_so tells state offers s lot cap rename pass p owns shows fit 7 free below offer url body offered ours durable middle version b (view q) after);
     }
@@ -268,15 +291,22 @@ module _ {C O : Type 0} (tells : Bool) (state : C → CellState) (offers : O →
   -- None was begun.
   refused_so : (fault : BeginFault) → IsTyped given → given ≡ answer_to_put (Err (Begin fault)) → ((given ≡ answer.LongUrl) ↔ IsTooLong h url) → ((versions : ℕ) → given ≢ answer.Spent versions) → NotTaken h 7 (anchor_for h url) (view pass) fault (view q)
       → q.hand ≡ pass.hand → IsFree q 7 → IsServedSo tells state offers s lot rename given q 7 p made
-  refused_so fault typed is long some n hand freed = still_served tells state offers s lot rename given q 7 p made (view pass) fit.is fit.newest keeps
-      (ap (λ (z : Step). z.after.counter) (put_refused (setting_of (basis tells state offers s)) url (bytes_of body) offer p free nb.plain_fault nb.begins_is))
-      (as_renamed rename (given_refused tells state offers s lot rename below pass q p given owns shows free fair offer url body durable offered ours fault typed is long (λ versions e. spent_never versions e) n hand freed))
+  refused_so fault typed is long some n hand freed = still_served tells state offers s lot rename given q 7 p made (view pass) fit.is fit.newest keeps (named_not rename (λ m le. refl)).0 (λ other agrees. (named_not other agrees).1)
     where
-      spent_never : (versions : ℕ) → fault ≡ Spent versions → SpentRight tells state offers s rename lot pass p owns shows 7 free below offer url body offered ours q versions
-      spent_never versions e = absurd (some versions (is ∙ ap (λ (x : BeginFault). answer_to_put (Err (Begin x))) e))
+      named_not : (other : ℕ → ℕ) → Agrees p.counter rename other → (made.after.counter ≡ p.counter) × IsRenamed tells state offers s other lot given q 7 made
+      named_not other agrees = (
+        ap (λ (z : Step). z.after.counter) (put_refused (setting_of (basis tells state offers s)) url (bytes_of body) offer p free nb.plain_fault nb.begins_is),
+        as_renamed other (given_refused tells state offers s lot other below pass q p given owns shown free fair offer url body durable offered ours fault typed is long spent_never n hand freed),
+      )
+        where
+          shown : ShowsLot tells state offers s other pass p lot
+          shown = shows_renamed tells state offers s rename other pass p fit.counts agrees lot shows
 
-      nb : NotBegun tells state offers s rename lot pass p owns shows 7 free below offer url body offered ours fault q
-      nb = not_begun tells state offers s rename lot pass p owns shows 7 free below offer url body offered ours fault q spent_never n (subst (λ (z : Answer). (z ≡ answer.LongUrl) ↔ IsTooLong h url) is long) (subst IsTyped is typed)
+          spent_never : (versions : ℕ) → fault ≡ Spent versions → SpentRight tells state offers s other lot pass p owns shown 7 free below offer url body offered ours q versions
+          spent_never versions e = absurd (some versions (is ∙ ap (λ (x : BeginFault). answer_to_put (Err (Begin x))) e))
+
+          nb : NotBegun tells state offers s other lot pass p owns shown 7 free below offer url body offered ours fault q
+          nb = not_begun tells state offers s other lot pass p owns shown 7 free below offer url body offered ours fault q spent_never n (subst (λ (z : Answer). (z ≡ answer.LongUrl) ↔ IsTooLong h url) is long) (subst IsTyped is typed)
 
   -- A request that stores a response, where it was not answered that no version is left.
   pub puts_so : IsTyped given → ((versions : ℕ) → given ≢ answer.Spent versions) → Puts tells state offers s url pass given q offer durable → IsServedSo tells state offers s lot rename given q 7 p made

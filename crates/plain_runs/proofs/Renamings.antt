@@ -103,13 +103,9 @@ module _ (g : Ground (List ℕ)) where
   drew_it v w version d = subst (WasDrawn w) d.version_is (drawn_now d.middle w d.found d.draw)
 
   -- What a draw tells of a lot without the counter, by names for which the version stands for the next one.
-  pub drew_named : (lot : Lot) (base : ℕ) (rename : ℕ → ℕ) (v w : View (List ℕ)) (version : ℕ) (p : Plain) (guests : ℕ → ℕ) → lot.counter ≡ false → IsRenaming base rename → rename (p.counter + 1) ≡ version
+  pub drew_named : (lot : Lot) (rename : ℕ → ℕ) (v w : View (List ℕ)) (version : ℕ) (p : Plain) (guests : ℕ → ℕ) → lot.counter ≡ false → p.counter < version_limit → rename (p.counter + 1) ≡ version
       → KnowsLot g rename lot v p guests → Drew g v version w → DrewNext g lot rename w version p guests
-  drew_named lot base rename v w version p guests none is next h d = record {
-    version_is = sym next;
-    left = let k = not_less base rename is (p.counter + 1) in let l = d.left in let e = d.version_is in omega arith;
-    knows = drew_lot g lot rename v w version p guests none h d;
-  }
+  drew_named lot rename v w version p guests none left next h d = record { version_is = sym next; left = left; knows = drew_lot g lot rename v w version p guests none h d }
 
   -- Names that agree on the versions of the plain store show the same.
   at_renamed : (rename other : ℕ → ℕ) (v : View (List ℕ)) (p : Plain) (n a : ℕ) → other (place_at p a).version ≡ rename (place_at p a).version → ShowsAt g rename v p n a → ShowsAt g other v p n a
