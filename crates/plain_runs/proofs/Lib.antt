@@ -49,6 +49,7 @@ pub mod Giving
 pub mod Putting
 pub mod LotRequests
 pub mod LotLines
+pub mod LotCourses
 pub mod WritingLines
 pub mod Bodies
 pub mod Judging

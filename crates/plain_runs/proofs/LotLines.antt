@@ -73,6 +73,7 @@ module _ {C O : Type 0} (tells : Bool) (state : C → CellState) (offers : O →
   pub record LotServed (rename : ℕ → ℕ) (a : Answer) (q : Pass C) (plain : Plain) (made : Step) : Type 0 where
     pub names : ℕ → ℕ
     pub agrees : Agrees plain.counter rename names
+    pub least : plain.counter ≤ made.after.counter
     pub answered : (other : ℕ → ℕ) → Agrees made.after.counter names other → a ≡ renamed other made.answer
     pub shows : ShowsLot tells state offers s names q made.after lot
     pub fit : IsFitting g lot cap names (view q) made.after
@@ -84,6 +85,7 @@ module _ {C O : Type 0} (tells : Bool) (state : C → CellState) (offers : O →
     after_all t made below mine leaves so keeps room counts = record {
       names = so.names;
       agrees = so.agrees;
+      least = so.least;
       answered = λ other agrees. (so.served other agrees).answered;
       shows = shows_after tells state offers s so.names begins stays lot p q plain made.after t owns (shows_renamed tells state offers s rename so.names p plain fit.counts so.agrees lot h) leaves keeps (so.served so.names (λ n le. refl)).shows below mine;
       fit = record {

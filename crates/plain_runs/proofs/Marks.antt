@@ -33,7 +33,7 @@ use Rattle.plain_runs.proofs.Frames.{knows_same}
 use Rattle.plain_runs.specs.Runs.{ShowsPlain}
 
 -- what a pass has of a word stays where it learns, by an item that is of no link
-has_still : {X : Type 0} → (g : Ground X) (v : View X) (sights : List Sight) (item : Item) → TellsNoLink item.kind → (q : Place) → has g (learns v sights item) q ≡ has g v q
+pub has_still : {X : Type 0} → (g : Ground X) (v : View X) (sights : List Sight) (item : Item) → TellsNoLink item.kind → (q : Place) → has g (learns v sights item) q ≡ has g v q
 has_still g v sights item quiet (Link slot) =
     ap (λ (z : Bool). cond z 0 (mirrored g.setting (index g.setting (Link slot)) v.mirror)) same
   where
