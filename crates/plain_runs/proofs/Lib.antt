@@ -12,6 +12,7 @@ pub mod Standing
 pub mod Ends
 pub mod Closings
 pub mod Runs
+pub mod LotRuns
 pub mod OwnAnchors
 pub mod Frames
 pub mod Chains
