@@ -12,7 +12,7 @@ use Rattle.script_text.specs.declared.request.Request.TheVariants.{Begin, OpenTa
 use Rattle.plain_model.specs.declared.store.Setting.{Setting}
 use Rattle.plain_model.specs.declared.store.Plain.{Plain}
 use Rattle.plain_model.specs.Store.{place_at, tab_at}
-use Rattle.plain_model.specs.Serving.{answers, answers_of, after, lines_for}
+use Rattle.plain_model.specs.Serving.{answers_of, after, lines_for}
 use Rattle.plain_laws.specs.Fitting.{most_held, Fits, IsAtRest}
 use Rattle.plain_laws.specs.Renaming.{IsRenaming, CountsVersions}
 use Rattle.plain_laws.specs.Private.{names_only, takes, is_private_anchor, is_private_tab, is_private, private_lines, OpenOnly, TabsApart, AnswersAlone}

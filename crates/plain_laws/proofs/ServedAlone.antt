@@ -1,5 +1,5 @@
 -- A worker that is served alone, by any answers that it was given.
-use Rattle.std.proofs.Common.{◌≡◌, ◌∙◌, ℕ, ◌<◌, ◌≤◌, List, [], ◌∷◌, map, sym, ap, subst, arith}
+use Rattle.std.proofs.Common.{◌≡◌, ◌∙◌, ℕ, List, [], ◌∷◌, map, sym, ap, subst, arith}
 use Rattle.script_text.specs.declared.line.Line.{Line}
 use Rattle.script_text.specs.declared.answer.Answer.{Answer}
 use Rattle.plain_model.specs.declared.store.Setting.{Setting}

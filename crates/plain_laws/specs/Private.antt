@@ -1,5 +1,5 @@
 -- Anchors, tabs and lines that are one worker's own.
-use Rattle.std.specs.Prelude.{◌≡◌, ◌⊎◌, ℕ, ◌≤◌, ◌==◌, ◌||◌, List, [], ◌∷◌, map, filter, Contains, if◌then◌else◌, Bool, true, false, not, Option, Some, None}
+use Rattle.std.specs.Prelude.{◌≡◌, ◌⊎◌, ℕ, ◌==◌, ◌||◌, List, [], ◌∷◌, map, filter, Contains, if◌then◌else◌, Bool, true, false, not, Option, Some, None}
 use Rattle.std.specs.List.{range_with_len, list_all}
 use Rattle.store_key.specs.Key.{key_of}
 use Rattle.store_key.specs.Anchor.{anchor_of}
