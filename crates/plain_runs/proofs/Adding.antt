@@ -1,5 +1,5 @@
 -- Bytes that a call adds to the entry that a tab writes, in the store and in the plain store.
-use Rattle.std.proofs.Common.{Bool, List, None, Some, [], ap, arith, cond, inl, inr, length, ne_eqb, refl, subst, sym, ◌*◌, ◌+◌, ◌-◌, ◌<◌, ◌∙◌, ◌≡◌, ◌≢◌, ◌≤◌, ◌⊎◌, ◌∷◌, ℕ}
+use Rattle.std.proofs.Common.{Bool, List, None, Some, [], ap, arith, cond, inl, inr, length, ne_eqb, refl, subst, sym, ◌*◌, ◌+◌, ◌-◌, ◌<◌, ◌∙◌, ◌≡◌, ◌≢◌, ◌≤◌, ◌⊎◌, ◌∷◌, ℕ, true}
 use Rattle.std.specs.Prelude.{◌==◌}
 use Rattle.lock_word.specs.declared.stage.Stage.{Stage}
 use Rattle.lock_word.specs.declared.stage.Stage.TheVariants as stage

@@ -216,7 +216,7 @@ module _ {C O : Type 0} (tells : Bool) (state : C → CellState) (offers : O →
         size = ap (λ (u : List ℕ). 32 + length u + 0) offered.url_is ∙ (omega arith);
       }
 
-  begun_tab : (version : ℕ) (q : Pass C) → IsBegun version q → ShowsTab tells state offers s rename q (taken_by t a (entry_of url (bytes_of body) offer) p) t (tab_at (taken_by t a (entry_of url (bytes_of body) offer) p) t)
+  pub begun_tab : (version : ℕ) (q : Pass C) → IsBegun version q → ShowsTab tells state offers s rename q (taken_by t a (entry_of url (bytes_of body) offer) p) t (tab_at (taken_by t a (entry_of url (bytes_of body) offer) p) t)
   begun_tab version q b = subst (ShowsTab tells state offers s rename q (taken_by t a (entry_of url (bytes_of body) offer) p) t) (sym (get_or-set_same p.tabs t (Writing a) Free inside_tabs)) b.tab
 
   -- What is answered to a line that begins an entry on a free tab, and what it leaves.
@@ -262,7 +262,7 @@ module _ (s : Setting) (url body : List ℕ) (offer : ℕ) (p : Plain) (free : t
 -- In a store with one pass the counter tells all draws.
 module _ {C O : Type 0} (tells : Bool) (state : C → CellState) (offers : O → Offers) (s : Store C O) (rename : ℕ → ℕ) (lone : IsLone (basis tells state offers s)) (pass : Pass C) (p : Plain)
     (shows : Shows tells state offers s rename pass p) (t : ℕ) (free : tab_at p t ≡ Free) (below : t < 8) (offer : ℕ) (url : List ℕ) (body : Body) (offered : IsOffered tells state offers s offer url body) where
-  own : OwnsLot (basis tells state offers s) whole_lot (view pass).pass
+  abbrev own : OwnsLot (basis tells state offers s) whole_lot (view pass).pass
   own = lot_lone (basis tells state offers s) lone whole_lot (view pass).pass
 
   pub drew_lone : (durable : Bool) (version : ℕ) (q : Pass C) (b : Began tells state offers s t offer url durable pass q version) → rename (p.counter + 1) ≡ p.counter + 1

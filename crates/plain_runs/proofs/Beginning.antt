@@ -1,5 +1,5 @@
 -- What is known of the plain store once an anchor was taken for a new entry.
-use Rattle.std.proofs.Common.{Bool, Contains, List, Some, [], ap, arith, cond, eq-eqb, false, get_or, get_or-set_other, get_or-set_same, inl, inr, length, length-set, refl, subst, sym, true, ◌+◌, ◌-◌, ◌<◌, ◌∙◌, ◌≡◌, ◌≤◌, ◌⊎◌, ℕ}
+use Rattle.std.proofs.Common.{Bool, Contains, List, Some, [], ap, arith, cond, eq-eqb, false, get_or, get_or-set_other, get_or-set_same, inl, inr, length, length-set, refl, set, subst, sym, true, ◌+◌, ◌-◌, ◌<◌, ◌∙◌, ◌≡◌, ◌≤◌, ◌⊎◌, ℕ}
 use Rattle.std.proofs.lemmas.Bool.{false≢true}
 use Rattle.std.specs.Prelude.{◌||◌}
 use Rattle.std.proofs.Math.Nat.{div-eq_of_lt}
@@ -423,10 +423,16 @@ module _ (g : Ground (List ℕ)) (lot : Lot) (rename : ℕ → ℕ) (t a n versi
       taken_but : KnowsLotBut g rename lot took.taken (taken_by t a e p) no_guests a
       taken_but = took_but g lot rename t a n version v took.taken took.took p owns ours drew e free below
 
-      taken_long : is_idle n ≡ true → IsPass took.taken
-      taken_long idle = ap (λ (z : View (List ℕ)). length z.tabs) took.took.takes.leaves
+      cleared_first : List (TabOf (List ℕ))
+      cleared_first = set took.took.drawn.tabs inner (Freeing (freer_of a false n (chain_found took.took.takes.state (Take t a version))))
+
+      taken_tabs : is_idle n ≡ true → length took.taken.tabs ≡ length (set cleared_first t (TabOf.Writing (writer_of a version)))
+      taken_tabs idle = ap (λ (z : View (List ℕ)). length z.tabs) took.took.takes.leaves
           ∙ (let z = eq-eqb n (last_find a took.took.drawn.trail) (found_last g lot rename t a n version v took.taken took.took p owns ours drew) in rw (z, idle) refl)
-          ∙ (length-set _ t (TabOf.Writing (writer_of a version)) ∙ (length-set took.took.drawn.tabs inner _ ∙ took.took.takes.may.pass))
+
+      taken_long : is_idle n ≡ true → IsPass took.taken
+      taken_long idle = taken_tabs idle ∙ (length-set cleared_first t (TabOf.Writing (writer_of a version))
+          ∙ (length-set took.took.drawn.tabs inner (Freeing (freer_of a false n (chain_found took.took.takes.state (Take t a version)))) ∙ took.took.takes.may.pass))
 
       of_idle : (idle : is_idle n ≡ true) → Freed g took.taken w → IsTaken e
       of_idle idle f = let k = took_idle g t a n version v took.taken nine writes_below inner_free took.took idle in record {

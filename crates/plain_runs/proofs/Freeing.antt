@@ -23,6 +23,7 @@ use Rattle.core_model.specs.Trails.{last_find}
 use Rattle.core_model.specs.declared.moves.Move.{Move}
 use Rattle.core_model.specs.declared.moves.Move.TheVariants.{Evict, Take}
 use Rattle.core_model.specs.declared.moves.Side.{Side}
+use Rattle.core_model.specs.declared.moves.Side.TheVariants.{Start}
 use Rattle.core_model.specs.declared.tab.Freer.{Freer}
 use Rattle.core_model.specs.declared.tab.Tab.{Tab}
 use Rattle.core_model.specs.declared.tab.Tab.TheVariants.{Free, Freeing, Writing}

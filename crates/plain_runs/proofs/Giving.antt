@@ -296,7 +296,7 @@ module _ {C O : Type 0} (tells : Bool) (state : C → CellState) (offers : O →
   -- The requests, of a pass that shows the plain store p of a lot of its own, which the tab is of.
   module _ (pass q : Pass C) (p : Plain) (a : Answer) (owns : OwnsLot g lot (view pass).pass) (h : ShowsLot tells state offers st rename pass p lot) (mine : lot.tabs t ≡ true) (anchor : ℕ)
       (writes : plain_tab p t ≡ plain.Writing anchor) where
-    w : ShowsWriting tells state offers st rename pass p t anchor
+    pub w : ShowsWriting tells state offers st rename pass p t anchor
     w = subst (ShowsTab tells state offers st rename pass p t) writes (h.tabs t below mine)
 
     ours_written : lot.anchors w.written.anchor ≡ true

@@ -1,5 +1,5 @@
 -- An entry that a tab gives up, in the store and in the plain store.
-use Rattle.std.proofs.Common.{Contains, List, None, Option, Some, ap, arith, cond, get_or-set_other, get_or-set_same, inl, inr, length, length-set, refl, set, subst, sym, ◌-◌, ◌/◌, ◌<◌, ◌==◌, ◌∙◌, ◌≡◌, ◌≤◌, ◌⊎◌, ℕ}
+use Rattle.std.proofs.Common.{Contains, List, None, Option, Some, ap, arith, cond, get_or-set_other, get_or-set_same, inl, inr, length, length-set, refl, set, subst, sym, true, ◌-◌, ◌/◌, ◌<◌, ◌==◌, ◌∙◌, ◌≡◌, ◌≤◌, ◌⊎◌, ℕ}
 use Rattle.lock_word.specs.Words.{epoch_of as epoch_in, raised, stage_number, stage_of as stage_in, word_number}
 use Rattle.lock_word.specs.declared.stage.Stage.{Stage}
 use Rattle.lock_word.specs.declared.stage.Stage.TheVariants as stage

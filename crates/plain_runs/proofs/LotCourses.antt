@@ -39,6 +39,7 @@ use Rattle.worker_shelf.proofs.Holding.{Stays}
 use Rattle.worker_shelf.specs.Playing.{IsStep, Meets, Notes, StepOn}
 use Rattle.core_alone.proofs.Renewed.{noted as noted_kind, learned as learned_kind}
 use Rattle.crew_accounts.proofs.GivenBytes.{IsFromFront}
+use Rattle.plain_runs.specs.Alone.{IsAtMark}
 use Rattle.plain_runs.specs.Shows.{IsWithin, ShowsLot, ShowsTab}
 use Rattle.plain_runs.specs.Words.{IsOfOffer, KnowsLot, Lot, ShowsEntryIf, no_guests, setting_of}
 use Rattle.plain_runs.proofs.Courses.{uses, whole_stays}
@@ -49,12 +50,6 @@ use Rattle.plain_runs.proofs.Marks.{SeesMore, free_still, has_still, leaves_all}
 use Rattle.plain_runs.proofs.OwnAnchors.{OwnsLot, lot_stays}
 use Rattle.plain_runs.proofs.Renamings.{Agrees, newest_on}
 use Rattle.plain_runs.proofs.ShowingOthers.{OneBegins, reading_shows, writing_shows}
-
--- a request at a mark
-abbrev pub IsAtMark : Request → Type 0
-IsAtMark (Mark mark) = Unit {0}
-IsAtMark (Await mark) = Unit {0}
-IsAtMark request = ⊥
 
 module _ {C O : Type 0} (tells : Bool) (state : C → CellState) (offers : O → Offers) (s : Store C O) (begins : OneBegins) (stays : Stays tells state offers s) (rename : ℕ → ℕ) (lot : Lot) (p q : Pass C) (plain : Plain) (more : SeesMore tells state offers s p q)
     (owns : OwnsLot (basis tells state offers s) lot (view p).pass) (h : ShowsLot tells state offers s rename p plain lot) where

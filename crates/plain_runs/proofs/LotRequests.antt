@@ -1,7 +1,7 @@
 -- Requests on a lot of a store that fits, by the pass to which its anchors are left: each is answered as by the plain store, but for versions.
 use Rattle.std.proofs.Common.{Bool, Contains, IsTrue, List, None, Option, Some, ap, arith, false, get_or, get_or-set_same, inl, inr, length, refl, set, subst, sym, true, ◌+◌, ◌<◌, ◌∙◌, ◌≡◌, ◌≢◌, ◌≤◌, ◌⊎◌, ℕ}
 use Rattle.std.specs.Prelude.{Err, IfErr, IfOk, Ok, OnErr, Result, nat_lt, ◌||◌, ◌↔◌}
-use Rattle.std.proofs.lemmas.Bool.Decides.{nat_tests}
+use Rattle.std.proofs.lemmas.Bool.{le-ltb}
 use Rattle.lock_word.specs.Words.{version_limit}
 use Rattle.rock_disk.specs.Cell.{CellState}
 use Rattle.store_key.specs.Anchor.{anchor_of}
@@ -83,7 +83,10 @@ ample g cap a p x fits_is room there grows = record {
   some = room.slots;
   filling = room.room;
   cap = cap a;
-  roomy = record { entry = x; there = there; grows = grows; may_hold = roomy_sum (setting_of g) cap a p x room there };
+  entry = x;
+  there = there;
+  grows = grows;
+  may_hold = roomy_sum (setting_of g) cap a p x room there;
   enough = ((room.fits a).writing x there grows).need;
 }
 
@@ -246,7 +249,7 @@ module _ {C O : Type 0} (tells : Bool) (state : C → CellState) (offers : O →
 
   -- An entry was begun with this version, and ended.
   module _ (middle : Pass C) (version : ℕ) (b : Began tells state offers s 7 offer url durable pass middle version) where
-    names : ℕ → ℕ
+    abbrev names : ℕ → ℕ
     names = renamed_from rename p.counter version
 
     one : IsBegun tells state offers s names lot pass p owns (shows_so tells state offers s lot cap rename pass p owns shows fit 7 free below offer url body offered ours durable middle version b names (λ n le. refl))
@@ -261,7 +264,7 @@ module _ {C O : Type 0} (tells : Bool) (state : C → CellState) (offers : O →
 
     -- the plain store begins it too
     fitting : nat_lt (setting_of (basis tells state offers s)).room (meta_size url) ≡ false
-    fitting = let l : LeavesRoom h.slot url = subst (LeavesRoom h.slot) offered.url_is b.writes.rests.fits.short in grind (arith, nat_tests)
+    fitting = let l : LeavesRoom h.slot url = subst (LeavesRoom h.slot) offered.url_is b.writes.rests.fits.short in le-ltb (setting_of (basis tells state offers s)).room (meta_size url) (omega arith)
 
     placed : place_at begun (anchor_for h url) ≡ record { version = p.counter + 1; doom = false; entry = Some (entry_of url (bytes_of body) offer) }
     placed = get_or-set_same p.places (anchor_for (basis tells state offers s) url) (record { version = p.counter + 1; doom = false; entry = Some (entry_of url (bytes_of body) offer) }) nothing

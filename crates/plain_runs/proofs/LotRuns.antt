@@ -41,8 +41,7 @@ use Rattle.store_serve.specs.Whole.{whole_tab}
 use Rattle.worker_shelf.specs.Shelves.{OnShelf}
 use Rattle.worker_shelf.proofs.Holding.{Stays}
 use Rattle.worker_shelf.specs.Playing.{HasSteps, IsPlayed, fault_answers}
-use Rattle.plain_runs.specs.Alone.{IsAloneAtItsAnchors}
-use Rattle.plain_runs.specs.Alone as alone
+use Rattle.plain_runs.specs.Alone.{IsAloneAtItsAnchors, IsAtMark}
 use Rattle.plain_runs.specs.Runs.{Numbered, ShowsPlain, setting_over}
 use Rattle.plain_runs.specs.Shows.{IsWithin, ShowsLot}
 use Rattle.plain_runs.specs.Words.{Lot, setting_of}
@@ -50,7 +49,7 @@ use Rattle.plain_runs.proofs.AtAnchors.{OneKept}
 use Rattle.plain_runs.proofs.Awaits.{IsOwnLine, served_line, served_lines}
 use Rattle.plain_runs.proofs.LeftAnchors.{lot_left}
 use Rattle.plain_runs.proofs.Lines.{GivesFronts, GivesWholes}
-use Rattle.plain_runs.proofs.LotCourses.{AllServed, IsAtMark, IsFairOn, ReachedLot, all_served}
+use Rattle.plain_runs.proofs.LotCourses.{AllServed, IsFairOn, ReachedLot, all_served}
 use Rattle.plain_runs.proofs.LotLines.{IsOfLot}
 use Rattle.plain_runs.proofs.LotRequests.{IsFitting}
 use Rattle.plain_runs.proofs.Opened.{HoldsKept, holds_file, new_free, shows_opened}
@@ -73,36 +72,11 @@ needed_of s cap [] n line c a = absurd (let z = c.1 in omega arith)
 needed_of s cap (x ∷ lines) n line (zero, lt, e) a = subst (λ (l : Line). need_at s a l.request ≤ cap a) e (n.0 a)
 needed_of s cap (x ∷ lines) n line (suc i, lt, e) a = needed_of s cap lines n.1 line (i, (let z = lt in omega arith), e) a
 
-at_mark : (request : Request) → alone.IsAtMark request → IsAtMark request
-at_mark (Mark mark) h = tt
-at_mark (Await mark) h = tt
-at_mark (Put url body) h = h
-at_mark (Save url body) h = h
-at_mark (Get url) h = h
-at_mark (Purge url) h = h
-at_mark (Begin t url body) h = h
-at_mark (Add t count) h = h
-at_mark (End t) h = h
-at_mark (DropTab t) h = h
-at_mark (OpenTab t url) h = h
-at_mark (More t) h = h
-at_mark (CloseTab t) h = h
-
 -- a line at a mark is none of any lot
-mark_is_none : (s : Setting) (anchors tabs : ℕ → Bool) (request : Request) → alone.IsAtMark request → is_of s anchors tabs request ≡ false
+mark_is_none : (s : Setting) (anchors tabs : ℕ → Bool) (request : Request) → IsAtMark request → is_of s anchors tabs request ≡ false
 mark_is_none s anchors tabs (Mark mark) h = refl
 mark_is_none s anchors tabs (Await mark) h = refl
-mark_is_none s anchors tabs (Put url body) h = absurd h
-mark_is_none s anchors tabs (Save url body) h = absurd h
-mark_is_none s anchors tabs (Get url) h = absurd h
-mark_is_none s anchors tabs (Purge url) h = absurd h
-mark_is_none s anchors tabs (Begin t url body) h = absurd h
-mark_is_none s anchors tabs (Add t count) h = absurd h
-mark_is_none s anchors tabs (End t) h = absurd h
-mark_is_none s anchors tabs (DropTab t) h = absurd h
-mark_is_none s anchors tabs (OpenTab t url) h = absurd h
-mark_is_none s anchors tabs (More t) h = absurd h
-mark_is_none s anchors tabs (CloseTab t) h = absurd h
+mark_is_none s anchors tabs request h = absurd h
 
 -- One that is of a lot is served, and is of the lot of all tabs where it names none but these anchors.
 of_all_tabs : (s : Setting) (own mine anchors : ℕ → Bool) (request : Request) → is_of s own mine request ≡ true → names_only s anchors request ≡ true → IsServed request × (is_of s anchors (λ t. true) request ≡ true)
@@ -223,9 +197,9 @@ module _ {C O St : Type 0} (tells : Bool) (state : C → CellState) (offers : O 
       needs = λ b. needed_of S cap (lines_for (w + 1) script) (all_needed S (lines_for (w + 1) script) plain) x.line (among x c) b;
     }
       where
-        by_line : alone.IsAtMark x.line.request ⊎ ((is_private S script (w + 1) x.line ≡ true) × (names_only S (left_to g w) x.line.request ≡ true))
+        by_line : IsAtMark x.line.request ⊎ ((is_private S script (w + 1) x.line ≡ true) × (names_only S (left_to g w) x.line.request ≡ true))
             → ((these x.line ≡ true) × IsServed x.line.request × IsOfLot S lot x.line.request) ⊎ ((these x.line ≡ false) × IsAtMark x.line.request)
-        by_line (inl mark) = inr (mark_is_none S _ _ x.line.request mark, at_mark x.line.request mark)
+        by_line (inl mark) = inr (mark_is_none S _ _ x.line.request mark, mark)
         by_line (inr (private, names)) = let k = of_all_tabs S _ _ (left_to g w) x.line.request private names in inl (private, k.0, record { of = k.1; names = names })
 
     done : AllServed tells state offers faults s script lot cap refl begins stays told (holds_file tells state offers slot anchors passes origin cells s ps over told holds) record { front = fronts; whole = wholes }

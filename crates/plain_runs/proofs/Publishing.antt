@@ -80,12 +80,12 @@ module _ (g : Ground (List ℕ)) (lot : Lot) (rename : ℕ → ℕ) (t : ℕ) (b
     module _ (filled : ℕ) (content : x.content ≡ filled * s.room) (small : filled < limit s) where
       -- Where more bytes are to come a store that fits has room for the slot that is full and for the one behind it.
       module _ (behind : x.content < meta_size x.url + length x.body) where
-        same_entry : (q : Plain) → entry_at q e.anchor ≡ Some x → (m : IsAmple g e.anchor q) → m.roomy.entry ≡ x
-        same_entry q is m = let k : Some m.roomy.entry ≡ Some x = sym m.roomy.there ∙ is in cc
+        same_entry : (q : Plain) → entry_at q e.anchor ≡ Some x → (m : IsAmple g e.anchor q) → m.entry ≡ x
+        same_entry q is m = let k : Some m.entry ≡ Some x = sym m.there ∙ is in cc
 
         cap_is : (q : Plain) → entry_at q e.anchor ≡ Some x → (m : IsAmple g e.anchor q) → filled + 1 ≤ m.cap
         cap_is q is m = let enough = m.enough in let same = same_entry q is m in
-            let total : published s.room (meta_size m.roomy.entry.url + length m.roomy.entry.body) ≡ published s.room (meta_size x.url + length x.body) = ap (λ (z : Entry). published s.room (meta_size z.url + length z.body)) same in
+            let total : published s.room (meta_size m.entry.url + length m.entry.body) ≡ published s.room (meta_size x.url + length x.body) = ap (λ (z : Entry). published s.room (meta_size z.url + length z.body)) same in
             let one : published s.room (x.content + 1) ≡ filled = published_is s.room filled (x.content + 1) (let c = content in omega arith) (let c = content in let r = m.filling in omega arith) in
             let le = published_le s.room (x.content + 1) (meta_size x.url + length x.body) m.filling (omega arith) in
             omega arith

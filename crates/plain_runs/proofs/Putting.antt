@@ -71,6 +71,9 @@ module _ {C O : Type 0} (tells : Bool) (state : C → CellState) (offers : O →
     one_begun : IsBegun tells state offers st rename lot pass p owns h 7 free below offer url body offered ours version middle
     one_begun = is_begun tells state offers st rename lot pass p owns h 7 free below offer url body offered ours durable version middle b drew
 
+    number : (view middle).pass ≡ (view pass).pass
+    number = (began_knowing tells state offers st 7 b).pass
+
     ready : IsReadied g lot rename 7 at (view middle) begun middle.hand
     ready = record {
       knows = one_begun.knows;
@@ -82,9 +85,6 @@ module _ {C O : Type 0} (tells : Bool) (state : C → CellState) (offers : O →
       hand_is = ap (hand_in g.setting.anchors) hand ∙ h.hand;
       eight = length-set p.tabs 7 (plain.Writing at) ∙ h.eight;
     }
-
-    number : (view middle).pass ≡ (view pass).pass
-    number = (began_knowing tells state offers st 7 b).pass
 
     writes : plain_tab begun 7 ≡ plain.Writing at
     writes = get_or-set_same p.tabs 7 (plain.Writing at) plain.Free (let n = h.eight in omega arith)

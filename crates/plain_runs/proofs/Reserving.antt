@@ -38,7 +38,9 @@ use Rattle.plain_runs.proofs.PlainWords.{readers_fit}
 use Rattle.plain_runs.proofs.Roomed.{claimed_knows}
 use Rattle.plain_runs.proofs.Totals.{sum_only}
 use Rattle.plain_runs.proofs.Frames.{SameBut, same_weaker, went_touched}
-use Rattle.plain_laws.proofs.Alone.{Roomy, claim_free, resize_sums}
+use Rattle.plain_laws.specs.Holding.{slots_held}
+use Rattle.plain_laws.proofs.Alone.{claim_free, resize_sums}
+use Rattle.plain_laws.proofs.Filling.{resized_there}
 use Rattle.entry_cut.specs.Content.{room_of}
 use Rattle.core_model.specs.Layout.{IsPlace}
 use Rattle.core_model.specs.declared.view.Place.{Place}
@@ -133,8 +135,11 @@ pub record IsAmple {X : Type 0} (g : Ground X) (a : ℕ) (p : Plain) : Type 0 wh
   pub some : 0 < (setting_of g).slots
   pub filling : 0 < (setting_of g).room
   pub cap : ℕ
-  pub roomy : Roomy (setting_of g) a cap p
-  pub enough : min (limit (setting_of g)) (published (room_of g.slot) (meta_size roomy.entry.url + length roomy.entry.body) + 1) ≤ cap
+  pub entry : Entry
+  pub there : entry_at p a ≡ Some entry
+  pub grows : entry.life ≡ Growing
+  pub may_hold : slots_held (setting_of g) p + cap ≤ (setting_of g).slots + held (room_of g.slot) (place_at p a)
+  pub enough : min (limit (setting_of g)) (published (room_of g.slot) (meta_size entry.url + length entry.body) + 1) ≤ cap
 
 abbrev pub Supply : {X : Type 0} → Ground X → Lot → (t a : ℕ) → View X → Plain → Type 0
 Supply g lot t a v p = IsCounted g lot t v ⊎ IsAmple g a p
@@ -155,7 +160,10 @@ supply_resized g lot t a c v p (inr m) = inr record {
   some = m.some;
   filling = m.filling;
   cap = m.cap;
-  roomy = resize_sums (setting_of g) a c m.cap p m.roomy;
+  entry = record m.entry { content = c };
+  there = resized_there a c p m.entry m.there;
+  grows = m.grows;
+  may_hold = (resize_sums (setting_of g) a c m.cap p record { entry = m.entry; there = m.there; grows = m.grows; may_hold = m.may_hold }).may_hold;
   enough = m.enough;
 }
 
@@ -262,7 +270,7 @@ module _ (g : Ground (List ℕ)) (lot : Lot) (rename : ℕ → ℕ) where
     -- In a store that fits a slot is found by a search, and the plain store has one too.
     module _ (m : IsAmple g a p) (more : held (room_of g.slot) (place_at p a) + n < m.cap) where
       claims_one : claim (setting_of g) n p ≡ record { store = p; done = true }
-      claims_one = claim_free (setting_of g) n p (let k = m.roomy.may_hold in omega arith)
+      claims_one = claim_free (setting_of g) n p (let k = m.may_hold in omega arith)
 
       ample_reserves : (u : View (List ℕ)) (slot hand_after : ℕ) → Reserved g t hand v slot u hand_after → HasClaimed t n a v u p hand_after slot
       ample_reserves u slot hand_after r = by_way r.how

@@ -225,4 +225,4 @@ module _ {C O : Type 0} (tells : Bool) (state : C → CellState) (offers : O →
     }
       where
         another : (j : ℕ) → lot.tabs j ≡ false → j ≢ t
-        another j no e = false≢true (sym no ∙ (ap lot.tabs e ∙ mine))
+        another j outside e = false≢true (sym outside ∙ (ap lot.tabs e ∙ mine))
