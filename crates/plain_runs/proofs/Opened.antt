@@ -27,7 +27,9 @@ use Rattle.store_rule.specs.Setting.{image_in, shown}
 use Rattle.rock_open.specs.Opening.{IsStoreOver}
 use Rattle.rock_reader.specs.Responses.{HoldsFile}
 use Rattle.plain_runs.specs.Shows.{ShowsTab}
-use Rattle.plain_runs.specs.Words.{Knows, no_guests}
+use Rattle.plain_model.specs.Store.{tab_at as plain_tab}
+use Rattle.plain_runs.specs.Words.{Knows, no_guests, whole_lot}
+use Rattle.plain_runs.proofs.ShowingOthers.{within_free}
 use Rattle.plain_runs.specs.Ends.{HasVersions, TellsPieces}
 use Rattle.plain_runs.specs.Runs.{ShowsPlain}
 use Rattle.plain_runs.proofs.AtAnchors.{OneKept, knows_opened, versions_there}
