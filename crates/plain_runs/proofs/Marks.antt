@@ -58,7 +58,7 @@ module _ {C O : Type 0} (tells : Bool) (state : C → CellState) (offers : O →
     free_still t free = same_tab t ∙ free
 
     -- no tab has changed, so each tab below the inner one is another than this
-    leaves_all : is_free (tab_at (view p) inner) ≡ true → Leaves tells state offers s 9 p q
+    pub leaves_all : is_free (tab_at (view p) inner) ≡ true → Leaves tells state offers s 9 p q
     leaves_all free = record {
       own = more.keeps.own;
       inner_free = ap is_free (same_tab inner) ∙ free;
