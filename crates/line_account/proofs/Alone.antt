@@ -231,7 +231,7 @@ module _ {X : Type 0} (r : Run X) (w : Worker X) where
       (record { in_ = record { later = []; split = refl }; at = record { url = url; named_is = ap (url_at (lines_in (p ∷ []))) gq; anchor = refl } })
       (record { in_ = record { later = []; split = refl }; at = record { url = url; named_is = ap (url_at []) pq; anchor = refl } })
       (subst (λ (z : Answer). Contains (counts_as z) (epoch_number e)) (sym pa) (0, omega arith, refl)) in
-      let doom : e.doom ≡ true = ((stage_in r start (g ∷ p ∷ []) (g ∷ []) p [] o.last refl o.course).adds.tells.purged e pa).doomed in
+      let doom : e.doom ≡ true = ((stage_in r start (g ∷ p ∷ []) (g ∷ []) p [] o.last refl o.course).adds.tells.purged e (subst (λ (z : Answer). TellsDoom z e) (sym pa) refl)).doomed in
       let undoomed : doom_of (epoch_number e) ≡ 0 = order.undoomed y (subst (λ (z : Answer). FindsOrStores z y) (sym ga) refl) same in
       let doomed : doom_of (epoch_number e) ≡ 1 = doom_of-epoch_number e ∙ ap doom_number doom in
       omega arith

@@ -159,7 +159,7 @@ module _ {X : Type 0} (r : Run X) (v w : View X) (h : KnowsAll v w) where
     drew = t.drew;
     began = t.began;
     finished = λ x q. finished_later earlier s x (t.finished x q);
-    gave_up = λ q. given_up_later earlier s (t.gave_up q);
+    gave_up = λ writes q. given_up_later earlier s (t.gave_up writes q);
     full = t.full;
     large = t.large;
     small = t.small;

@@ -94,6 +94,19 @@ found_below e opened v found h = ⊎_elim
 behind_first : (d e f : ℕ) → Contains (e ∷ []) f → Contains (d ∷ e ∷ []) f
 behind_first d e f h = Contains-append_right (d ∷ []) (e ∷ []) f h
 
+-- an answer that tells a doom shows where the entry was found, and the epoch that the doom left
+of_doom : (opened e : ℕ) (epoch : Epoch) (a : Answer) → FoundAt opened (version_of (epoch_number epoch)) → ((f : ℕ) → Contains (opened ∷ epoch_number epoch ∷ []) f → e ≤ f) → StagesUp e (opened ∷ epoch_number epoch ∷ [])
+    → printed a ≡ epoch_number epoch ∷ [] → epochs_told a ≡ epoch_number epoch ∷ [] → version_alone a ≡ None
+    → ((x : ℕ) → FindsOrStores a x → version_of (epoch_number epoch) ≡ x) → ((x : ℕ) → FindsEntry a x → version_of (epoch_number epoch) ≡ x) → NotBelow e a
+of_doom opened e epoch a found h up prints tells alone stores finds =
+    let b = found_below e opened (version_of (epoch_number epoch)) found (h opened (first_of opened (epoch_number epoch ∷ []))) in record {
+      epochs = λ f q. h f (behind_first opened (epoch_number epoch) f (subst (λ (l : List ℕ). Contains l f) prints q));
+      versions = λ x q. absurd (let z : None ≡ Some x = sym alone ∙ q in cc);
+      undoomed = λ x q s. b.1 (s ∙ sym (stores x q));
+      there = λ x q s. b.2 (s ∙ sym (finds x q));
+      stages = λ f q s. up f (behind_first opened (epoch_number epoch) f (subst (λ (l : List ℕ). Contains l f) tells q)) s;
+    }
+
 pub below : (opened looked e : ℕ) (a : Answer) → ((x : ℕ) → FindsEntry a x → FoundAt opened x) → ((f : ℕ) → Contains (epochs_of opened looked a) f → e ≤ f) → ((f : ℕ) → Contains (epochs_of opened looked a) f → version_of f ≡ version_of e → stage_of e ≤ stage_of f)
     → NotBelow e a
 below opened looked e (answer.Stored version) found h up = let le = h (epoch_at version 3) (first_of (epoch_at version 3) []) in record {
@@ -131,15 +144,9 @@ below opened looked e (answer.Hit version bytes) found h up = let b = found_belo
   there = λ x q s. b.2 (s ∙ sym q);
   stages = λ f q s. absurd (contains_none f q);
 }
-below opened looked e (answer.Purged epoch) found h up =
-    let v : ℕ = version_of (epoch_number epoch) in
-    let b = found_below e opened v (found v refl) (h opened (first_of opened (epoch_number epoch ∷ []))) in record {
-      epochs = λ f q. h f (behind_first opened (epoch_number epoch) f q);
-      versions = λ x q. absurd (let z : None ≡ Some x = q in cc);
-      undoomed = λ x q s. b.1 (s ∙ sym q);
-      there = λ x q s. b.2 (s ∙ sym q);
-      stages = λ f q s. up f (behind_first opened (epoch_number epoch) f q) s;
-    }
+below opened looked e (answer.Purged epoch) found h up = of_doom opened e epoch (answer.Purged epoch) (found (version_of (epoch_number epoch)) refl) h up refl refl refl (λ x q. q) (λ x q. q)
+below opened looked e (answer.Wiped epoch) found h up = of_doom opened e epoch (answer.Wiped epoch) (found (version_of (epoch_number epoch)) refl) h up refl refl refl (λ x q. q) (λ x q. q)
+below opened looked e (answer.Later epoch) found h up = of_doom opened e epoch (answer.Later epoch) (found (version_of (epoch_number epoch)) refl) h up refl refl refl (λ x q. q) (λ x q. q)
 below opened looked e (answer.Busy first second) found h up = of_epochs e (answer.Busy first second) h up refl (λ x q. q) (λ x q. q)
 below opened looked e (answer.Part epoch bytes) found h up = of_epochs e (answer.Part epoch bytes) h up refl (λ x q. q) (λ x q. q)
 below opened looked e (answer.Miss cause) found h up = of_epochs e (answer.Miss cause) h up refl (λ x q. q) (λ x q. q)
@@ -191,6 +198,8 @@ counted opened looked e (answer.Doomed version) found h = as_shown opened looked
 counted opened looked e (answer.Begun version) found h = as_shown opened looked e (epoch_at version 1) (answer.Begun version) (one (epoch_at version 1) e h) (first_of (epoch_at version 1) [])
 counted opened looked e (answer.Part epoch bytes) found h = as_shown opened looked e (epoch_number epoch) (answer.Part epoch bytes) (one (epoch_number epoch) e h) (first_of (epoch_number epoch) [])
 counted opened looked e (answer.Purged epoch) found h = as_shown opened looked e (epoch_number epoch) (answer.Purged epoch) (one (epoch_number epoch) e h) (second_of opened (epoch_number epoch))
+counted opened looked e (answer.Wiped epoch) found h = as_shown opened looked e (epoch_number epoch) (answer.Wiped epoch) (one (epoch_number epoch) e h) (second_of opened (epoch_number epoch))
+counted opened looked e (answer.Later epoch) found h = as_shown opened looked e (epoch_number epoch) (answer.Later epoch) (one (epoch_number epoch) e h) (second_of opened (epoch_number epoch))
 counted opened looked e (answer.Miss cause) found h = as_shown opened looked e (epoch_number (epoch_in cause)) (answer.Miss cause) (one (epoch_number (epoch_in cause)) e h) (first_of (epoch_number (epoch_in cause)) [])
 counted opened looked e (answer.NoEntry cause) found h = as_shown opened looked e (epoch_number (epoch_in cause)) (answer.NoEntry cause) (one (epoch_number (epoch_in cause)) e h) (first_of (epoch_number (epoch_in cause)) [])
 counted opened looked e (answer.Opened version) found h = at_opening opened looked e version (answer.Opened version) (found version refl) (one (epoch_at version 2) e h) (first_of opened [])
@@ -258,7 +267,7 @@ module _ {X : Type 0} (r : Run X) (v : View X) (earlier : List Served) (s : Serv
       let o = t.opened version comes in
       found_of version (told_hit s.asked.request version (version_of s.opened) bytes (subst (λ (z : Answer). ComesIn s.asked.request z (version_of s.opened)) e o.told)) o
 
-  purged_at : (epoch : Epoch) → s.answer ≡ answer.Purged epoch → FoundAt s.opened (version_of (epoch_number epoch))
+  purged_at : (epoch : Epoch) → TellsDoom s.answer epoch → FoundAt s.opened (version_of (epoch_number epoch))
   purged_at epoch e = let h = t.purged epoch e in record { readable = h.keyed.readable; version_is = sym h.version_is }
 
   finds_of : (a : Answer) → a ≡ s.answer → (x : ℕ) → FindsEntry a x → FoundAt s.opened x
@@ -278,7 +287,9 @@ module _ {X : Type 0} (r : Run X) (v : View X) (earlier : List Served) (s : Serv
   finds_of (answer.ReadFault bytes) e x q = absurd q
   finds_of answer.OtherUrl e x q = absurd q
   finds_of (answer.Miss cause) e x q = absurd q
-  finds_of (answer.Purged epoch) e x q = subst (FoundAt s.opened) q (purged_at epoch (sym e))
+  finds_of (answer.Purged epoch) e x q = subst (FoundAt s.opened) q (purged_at epoch (subst (λ (z : Answer). TellsDoom z epoch) e refl))
+  finds_of (answer.Wiped epoch) e x q = subst (FoundAt s.opened) q (purged_at epoch (subst (λ (z : Answer). TellsDoom z epoch) e refl))
+  finds_of (answer.Later epoch) e x q = subst (FoundAt s.opened) q (purged_at epoch (subst (λ (z : Answer). TellsDoom z epoch) e refl))
   finds_of (answer.NoEntry cause) e x q = absurd q
   finds_of (answer.Begun version) e x q = absurd q
   finds_of (answer.Added count) e x q = absurd q

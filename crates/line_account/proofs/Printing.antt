@@ -34,7 +34,7 @@ use Rattle.script_text.specs.Requests.{url_in}
 use Rattle.line_account.specs.Lines.{begun_by, Fits, LineOf, Offers, Served, added, begun_of, writing}
 use Rattle.line_account.specs.Deeds.{Began, BeganOnTab, Begins, ComesTo, Evicts, IsDeedOf, IsDeedOfEnd}
 use Rattle.line_account.specs.Requests.{IsAnswerTo}
-use Rattle.line_account.specs.Answers.{ComesIn, HasGiven, HasItem, IsSure, bytes_with, HasOther, HasPurged, IsCauseOf, IsEntryAt, IsKeyRead, IsLong, IsSpent, ReadAs, Refuses, Run}
+use Rattle.line_account.specs.Answers.{ComesIn, HasGiven, HasItem, IsSure, bytes_with, HasOther, HasPurged, IsCauseOf, IsEntryAt, IsKeyRead, IsLong, IsSpent, ReadAs, Refuses, Run, TellsDoom}
 use Rattle.line_account.specs.Accounts.{epoch_in}
 use Rattle.line_account.specs.Closing.{BegunIn, Closed, HaltedIn, LineIn, ShownIn, Worker, offered}
 use Rattle.line_account.specs.Printed.{AnotherComes, EndsBegun, AreFirstOnes, IsStored, ReadsOf, GivenBackIn, HadEntry, HasBusyWords, HasOtherUrl, HitIn, IsBodyOfLine, IsKeyOfLine, IsOldBody, IsOldUrl, KeyIn, NeedsTooMany, PrintsAdded, PrintsEnded, PrintsHit, PrintsKey, PrintsLarge, PrintsOther, PrintsReaders, WasWhole, old_offer}
@@ -414,14 +414,14 @@ module _ {X : Type 0} (r : Run X) (crew : List (Worker X)) (c : Closed r crew) w
             );
           })
 
-  told_purged : (e : Epoch) (p : LineIn crew (λ earlier s. s.answer ≡ answer.Purged e)) → HasPurged r p.worker.view p.served e
-  told_purged e p = (tells_at r crew c (λ earlier s. s.answer ≡ answer.Purged e) p).purged e p.so
+  told_purged : (e : Epoch) (p : LineIn crew (λ earlier s. TellsDoom s.answer e)) → HasPurged r p.worker.view p.served e
+  told_purged e p = (tells_at r crew c (λ earlier s. TellsDoom s.answer e) p).purged e p.so
 
-  pub purged_told : (e : Epoch) → LineIn crew (λ earlier s. s.answer ≡ answer.Purged e) → e.doom ≡ true
+  pub purged_told : (e : Epoch) → LineIn crew (λ earlier s. TellsDoom s.answer e) → e.doom ≡ true
   purged_told e p = (told_purged e p).doomed
 
   -- a doom leaves the entry at APPENDING, CLOSED or HALTED
-  pub purged_stage : (e : Epoch) → LineIn crew (λ earlier s. s.answer ≡ answer.Purged e) → (2 ≤ stage_of (epoch_number e)) × (stage_of (epoch_number e) ≤ 4)
+  pub purged_stage : (e : Epoch) → LineIn crew (λ earlier s. TellsDoom s.answer e) → (2 ≤ stage_of (epoch_number e)) × (stage_of (epoch_number e) ≤ 4)
   purged_stage e p = ((told_purged e p).from, (told_purged e p).to)
 
   -- Ends of writings.

@@ -73,7 +73,7 @@ record IsSilent (a : Answer) : Type 0 where
   other : a ≢ answer.OtherUrl
   halted : (bytes : List ℕ) → a ≢ answer.Halted bytes
   part : (e : Epoch) (bytes : List ℕ) → a ≢ answer.Part e bytes
-  purged : (e : Epoch) → a ≢ answer.Purged e
+  purged : (e : Epoch) → TellsDoom a e → ⊥
   added : (n : ℕ) → a ≢ answer.Added n
   reads : Reads a → ⊥
 
@@ -107,7 +107,7 @@ silent_tab = record {
   other = λ h. cc;
   halted = λ bytes h. cc;
   part = λ e bytes h. cc;
-  purged = λ e h. cc;
+  purged = λ e h. h;
   added = λ n h. cc;
   reads = λ h. h;
 }
@@ -129,7 +129,7 @@ silent_marked = record {
   other = λ h. cc;
   halted = λ bytes h. cc;
   part = λ e bytes h. cc;
-  purged = λ e h. cc;
+  purged = λ e h. h;
   added = λ n h. cc;
   reads = λ h. h;
 }
@@ -151,7 +151,7 @@ silent_met = record {
   other = λ h. cc;
   halted = λ bytes h. cc;
   part = λ e bytes h. cc;
-  purged = λ e h. cc;
+  purged = λ e h. h;
   added = λ n h. cc;
   reads = λ h. h;
 }
@@ -173,7 +173,7 @@ silent_unmet = record {
   other = λ h. cc;
   halted = λ bytes h. cc;
   part = λ e bytes h. cc;
-  purged = λ e h. cc;
+  purged = λ e h. h;
   added = λ n h. cc;
   reads = λ h. h;
 }
@@ -203,7 +203,7 @@ module _ {X : Type 0} (r : Run X) where
     drew = λ n. absurd (n none);
     began = λ x h. absurd (q.began s.asked.request x h);
     finished = λ x h. absurd (q.finished x h);
-    gave_up = λ h. absurd (let z : true ≡ false = sym h ∙ q.gave_up in cc);
+    gave_up = λ writes h. absurd (let z : true ≡ false = sym h ∙ q.gave_up in cc);
     full = λ h. absurd (q.full h);
     large = λ h. absurd (q.large h);
     small = λ x h. absurd (q.finished x h);

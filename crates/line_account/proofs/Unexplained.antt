@@ -209,7 +209,7 @@ module _ {X : Type 0} (r : Run X) (script : List Line) (w : Worker X) (rules : K
       omega arith
 
   pub never_purged : (s : Served) (e : Epoch) → w.served ≡ s ∷ [] → s.answer ≡ answer.Purged e → (2 ≤ stage_of (epoch_number e)) × (stage_of (epoch_number e) ≤ 4)
-  never_purged s e is sa = rules.epochs.purged_stage e (line_in [] s [] is (λ earlier z. z.answer ≡ answer.Purged e) sa)
+  never_purged s e is sa = rules.epochs.purged_stage e (line_in [] s [] is (λ earlier z. TellsDoom z.answer e) (subst (λ (z : Answer). TellsDoom z e) (sym sa) refl))
 
   pub never_before : (g p : Served) (url bytes : List ℕ) (body : Body) (x : ℕ) → w.served ≡ p ∷ g ∷ [] → g.asked.request ≡ Get url → g.answer ≡ answer.Hit x bytes → p.asked.request ≡ Put url body → p.answer ≡ answer.Stored x → ⊥
   never_before g p url bytes body x is gq ga pq pa =

@@ -17,14 +17,14 @@ use Rattle.script_text.specs.declared.answer.Answer.TheVariants as answer
 use Rattle.script_text.specs.declared.body.Body.{Body}
 use Rattle.script_text.specs.declared.line.Line.{Line}
 use Rattle.script_text.specs.declared.request.Request.{Request}
-use Rattle.script_text.specs.declared.request.Request.TheVariants.{Begin, Get, Put}
+use Rattle.script_text.specs.declared.request.Request.TheVariants.{Add, Begin, DropTab, End, Get, Put, Save}
 use Rattle.script_text.specs.Requests.{url_in}
 use Rattle.core_model.specs.Anchors.{opening_counter, opening_epoch}
 use Rattle.line_account.specs.Accounts.{Shows, epochs_of}
 use Rattle.line_account.specs.Alone.{alone, home}
 use Rattle.line_account.specs.Answers.{Run}
 use Rattle.line_account.specs.Closing.{HaltedIn, LineIn, ShownIn, Stores, TellsBegunIn, Worker}
-use Rattle.line_account.specs.Deeds.{Halts, MayEvict, TellsBegun}
+use Rattle.line_account.specs.Deeds.{Halts, MayEvict, NeededSlots, TellsBegun}
 use Rattle.line_account.specs.Lines.{IsAt, Served, begins, ends, gives_up, url_at, writing}
 use Rattle.line_account.specs.Printed.{MayGiveWay, WasWhole}
 use Rattle.line_account.specs.Refusals.{Any}
@@ -56,6 +56,15 @@ none_written t s is = ap (λ (b : Bool). cond b (Some s) (cond (ends t s.asked.r
     same : (b : Bool) → cond b None (writing t []) ≡ None
     same true = refl
     same false = refl
+
+-- a line that may have evicted an entry needed slots
+needed_slots : (q : Request) (a : Answer) → MayEvict q a → NeededSlots a
+needed_slots (Put url body) a h = h
+needed_slots (Save url body) a h = h
+needed_slots (Add tab count) a h = h
+needed_slots (End tab) a h = h
+needed_slots (DropTab tab) a h = h
+needed_slots _ a h = absurd h
 
 module _ {X : Type 0} (r : Run X) (script : List Line) (crew : List (Worker X)) (rules : KeepsRules r script crew) where
   abbrev line_in : (j : ℕ) (w : Worker X) → get_elem? crew j ≡ some w → (s : Served) → w.served ≡ s ∷ [] → (P : List Served → Served → Type 0) → P [] s → LineIn crew P
@@ -117,8 +126,8 @@ module _ {X : Type 0} (r : Run X) (script : List Line) (w : Worker X) (rules : K
     abbrev e : ℕ
     e = epoch_number held.epoch
 
-    none_evicts : LineIn (alone w) (λ earlier z. MayEvict z.answer) → ⊥
-    none_evicts p = subst MayEvict (ap Served.answer (sym (only (λ earlier z. MayEvict z.answer) p)) ∙ sa) p.so
+    none_evicts : LineIn (alone w) (λ earlier z. MayEvict z.asked.request z.answer) → ⊥
+    none_evicts p = subst NeededSlots (ap Served.answer (sym (only (λ earlier z. MayEvict z.asked.request z.answer) p)) ∙ sa) (needed_slots p.served.asked.request p.served.answer p.so)
 
     nothing : (t : ℕ) → writing t (s ∷ []) ≡ None
     nothing t = none_written t s (ap (λ (q : Request). begins t q s.answer) sq ∙ ap (begins t (Begin 0 url body)) sa ∙ and_right (0 == t) false refl)
@@ -169,8 +178,8 @@ module _ {X : Type 0} (r : Run X) (script : List Line) (crew : List (Worker X)) 
   abbrev freed : ℕ
   freed = epoch_number held.epoch
 
-  no_eviction : LineIn crew (λ earlier z. MayEvict z.answer) → ⊥
-  no_eviction p = subst MayEvict (any_line (λ earlier z. MayEvict z.answer) p) p.so
+  no_eviction : LineIn crew (λ earlier z. MayEvict z.asked.request z.answer) → ⊥
+  no_eviction p = subst NeededSlots (any_line (λ earlier z. MayEvict z.asked.request z.answer) p) (needed_slots p.served.asked.request p.served.answer p.so)
 
   no_giving_up : HaltedIn r crew a (version_of freed) → ⊥
   no_giving_up (inl p) =

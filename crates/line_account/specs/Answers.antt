@@ -186,7 +186,14 @@ pub record HasOpened {X : Type 0} (r : Run X) (v : View X) (s : Served) : Type 0
   pub entry : IsEntryAt r v (anchor_of (key_of url) r.setting.anchors) s.opened url
   pub told : ComesIn s.asked.request s.answer (version_of s.opened)
 
--- PURGED: the entry was found at an epoch at which it may be read, of the version that was doomed, with the key of the line's URL. The doom
+-- the answers that tell which epoch the doom of an entry left: PURGED, WIPED and LATER
+abbrev pub TellsDoom : Answer → Epoch → Type 0
+TellsDoom (answer.Purged epoch) e = epoch ≡ e
+TellsDoom (answer.Wiped epoch) e = epoch ≡ e
+TellsDoom (answer.Later epoch) e = epoch ≡ e
+TellsDoom _ e = ⊥
+
+-- PURGED, WIPED and LATER: the entry was found at an epoch at which it may be read, of the version that was doomed, with the key of the line's URL. The doom
 -- left it at APPENDING, CLOSED or HALTED.
 pub record HasPurged {X : Type 0} (r : Run X) (v : View X) (s : Served) (e : Epoch) : Type 0 where
   pub doomed : e.doom ≡ true

@@ -111,12 +111,15 @@ pub record PrintsOther (earlier : List Served) (s : Served) (url : List ℕ) : T
   pub named : url_in first.asked.request ≡ Some url
   pub printed : s.answer ≡ answer.OtherUrl
 
--- the answers that tell of an entry of the version x which was found to be there: OPEN, HIT, PART and PURGED
+-- the answers that tell of an entry of the version x which was found to be there: OPEN, HIT, PART, PURGED, WIPED
+-- and LATER
 abbrev pub TellsFound : Answer → ℕ → Type 0
 TellsFound (answer.Opened version) x = version ≡ x
 TellsFound (answer.Hit version bytes) x = version ≡ x
 TellsFound (answer.Part epoch bytes) x = version_of (epoch_number epoch) ≡ x
 TellsFound (answer.Purged epoch) x = version_of (epoch_number epoch) ≡ x
+TellsFound (answer.Wiped epoch) x = version_of (epoch_number epoch) ≡ x
+TellsFound (answer.Later epoch) x = version_of (epoch_number epoch) ≡ x
 TellsFound _ x = ⊥
 
 -- a line that names this URL, of the anchor a, printed that an entry of the version x is there
@@ -148,7 +151,7 @@ pub record PrintsReaders (anchors : ℕ) (earlier : List Served) (s : Served) (a
   pub printed : s.answer ≡ answer.Busy looked other
   pub more : (readers_at anchors earlier a < looked.readers) ⊎ (readers_at anchors earlier a < other.readers)
 
--- another worker than the one numbered j opens, gets or purges a URL of the anchor a
+-- another worker than the one numbered j opens, gets, purges or wipes a URL of the anchor a
 pub record AnotherComes {X : Type 0} (r : Run X) (crew : List (Worker X)) (j a : ℕ) : Type 0 where
   pub comes : LineIn crew (λ earlier s. ComesTo r.setting.anchors s.asked.request a)
   pub another : comes.j ≢ j
@@ -190,7 +193,7 @@ pub record MayGiveWay {X : Type 0} (r : Run X) (crew : List (Worker X)) (a x : �
   -- the run does not fit
   pub unfit : r.fits ≡ false
   -- some line may have evicted an entry, by its answer
-  pub evicts : LineIn crew (λ earlier s. MayEvict s.answer)
+  pub evicts : LineIn crew (λ earlier s. MayEvict s.asked.request s.answer)
   -- and the version was whole
   pub whole : WasWhole r crew a x
 

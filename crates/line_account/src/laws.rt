@@ -115,8 +115,9 @@ pub fn halted_entries_were_given_up<X>()
         → LineIn crew (λ earlier s. PrintsHalted r.setting.anchors earlier s a) → SomeHalted r crew a }
 {}
 
-/// A doomed epoch, and a DOOMED line, comes only where a line printed PURGED with its version, and such an
-/// epoch is at APPENDING or later. And the epoch of PURGED is doomed, at APPENDING, CLOSED or HALTED.
+/// A doomed epoch, and a DOOMED line, comes only where a line printed PURGED, WIPED or LATER with its version, or a
+/// `wipe` of a URL of the anchor printed FAULT; and such an epoch is at APPENDING or later. And the epoch of PURGED, WIPED
+/// and LATER is doomed, at APPENDING, CLOSED or HALTED.
 pub fn doomed_entries_were_purged<X>()
     ensures epoch { (r : Run X) (crew : List (Worker X)) (a e : ℕ) → Closed r crew → ShownIn r crew a e → IsDoomed e
         → PurgedIn r crew a (version_of e) }
@@ -125,8 +126,8 @@ pub fn doomed_entries_were_purged<X>()
     ensures line { (r : Run X) (crew : List (Worker X)) (a x : ℕ) → Closed r crew
         → LineIn crew (λ earlier s. PrintsDoomed r.setting.anchors earlier s a x) → PurgedIn r crew a x }
     ensures purged { (r : Run X) (crew : List (Worker X)) (e : Epoch) → Closed r crew
-        → LineIn crew (λ earlier s. s.answer ≡ Answer.Purged e) → e.doom ≡ true }
-    ensures stage { (r : Run X) (crew : List (Worker X)) (e : Epoch) → Closed r crew → LineIn crew (λ earlier s. s.answer ≡ Answer.Purged e)
+        → LineIn crew (λ earlier s. TellsDoom s.answer e) → e.doom ≡ true }
+    ensures stage { (r : Run X) (crew : List (Worker X)) (e : Epoch) → Closed r crew → LineIn crew (λ earlier s. TellsDoom s.answer e)
         → IsFromStage stage.Appending (epoch_number e) × IsUpToStage stage.Halted (epoch_number e) }
 {}
 
