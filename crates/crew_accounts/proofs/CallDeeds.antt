@@ -9,7 +9,7 @@ use Rattle.core_model.specs.declared.view.Deed.{Deed}
 use Rattle.core_model.specs.declared.view.Sight.{Sight}
 use Rattle.core_model.specs.declared.view.View.{View}
 use Rattle.line_account.specs.Lines.{Served}
-use Rattle.line_account.specs.Deeds.{Begins, ComesTo, Evicts, Finishes, Grows, Halts, IsDeedOf, PrintsBegunVersion, Purges}
+use Rattle.line_account.specs.Deeds.{Begins, ComesTo, Evicts, Finishes, Grows, Halts, IsDeedOf, PrintsBegunVersion, Purges, WipesInVain}
 use Rattle.line_account.specs.Answers.{HasPart, Run}
 use Rattle.line_account.specs.Accounts.{Shows, Tells}
 use Rattle.line_account.specs.Courses.{Adds}
@@ -44,9 +44,11 @@ module _ {X : Type 0} (r : Run X) (v : View X) (earlier : List Served) (s : Serv
   of_visiting a comes (inl h) = deed.entered r v earlier s d h.kind (subst (ComesTo r.setting.anchors s.asked.request) (sym h.anchor) comes)
   of_visiting a comes (inr h) = of_leaving h
 
-  pub of_purging : (a epoch : ℕ) → ComesTo r.setting.anchors s.asked.request a → Purges r.setting.anchors s a epoch → OfPurging a epoch d → IsDeedOf r v d earlier s
-  of_purging a epoch comes purges (inl h) = deed.doomed r v earlier s d h.kind h.doomed
-      (subst (λ b. Purges r.setting.anchors s b d.epoch) (sym h.anchor) (subst (Purges r.setting.anchors s a) (sym h.epoch_is) purges))
+  pub of_purging : (a epoch : ℕ) → ComesTo r.setting.anchors s.asked.request a → Purges r.setting.anchors s a epoch ⊎ WipesInVain r.setting.anchors s a → OfPurging a epoch d → IsDeedOf r v d earlier s
+  of_purging a epoch comes purges (inl h) = deed.doomed r v earlier s d h.kind h.doomed (⊎_elim
+      (λ (p : Purges r.setting.anchors s a epoch). inl (subst (λ b. Purges r.setting.anchors s b d.epoch) (sym h.anchor) (subst (Purges r.setting.anchors s a) (sym h.epoch_is) p)))
+      (λ (p : WipesInVain r.setting.anchors s a). inr (subst (λ b. WipesInVain r.setting.anchors s b) (sym h.anchor) p))
+      purges)
   of_purging a epoch comes purges (inr h) = of_visiting a comes h
 
   pub of_beginning : (a version : ℕ) → Begins r.setting.anchors s a version → OfBeginning a version d → IsDeedOf r v d earlier s

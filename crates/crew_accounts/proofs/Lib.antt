@@ -2,6 +2,7 @@ pub mod Telling
 pub mod DeedLines
 pub mod TabLines
 pub mod Shown
+pub mod Doomed
 pub mod Turns
 pub mod Tracking
 pub mod CallDeeds

@@ -65,6 +65,7 @@ pub record IsPutting (request : Request) : Type 0 where
   pub told_ended : (ended : Ended) (x : ℕ) → TellsBegun request (answer_to_ended ended) x → version_of ended ≡ x
   pub told_fault : (fault : WriteFault) (x : ℕ) → TellsBegun request (answer_to_fault fault) x → ⊥
   pub fits : (earlier : List Served) → Fits earlier request
+  pub evicts : (a : Answer) → NeededSlots a → MayEvict request a
   pub alone : (a : Answer) (j : ℕ) → LeavesAlone j request a
 
 -- what was stored was not too long
@@ -101,10 +102,10 @@ module _ (url : List ℕ) (body : Body) where
   put_told_none Fault x h = h
 
   pub puts_whole : IsPutting (Put url body)
-  puts_whole = record { ended = put_ended; fault = put_fault; began_ended = put_began; began_fault = put_gave_up; told_ended = put_told; told_fault = put_told_none; fits = λ earlier. tt; alone = put_alone url body }
+  puts_whole = record { ended = put_ended; fault = put_fault; began_ended = put_began; began_fault = put_gave_up; told_ended = put_told; told_fault = put_told_none; fits = λ earlier. tt; evicts = λ a h. h; alone = put_alone url body }
 
   pub saves_whole : IsPutting (Save url body)
-  saves_whole = record { ended = put_ended; fault = put_fault; began_ended = put_began; began_fault = put_gave_up; told_ended = put_told; told_fault = put_told_none; fits = λ earlier. tt; alone = save_alone url body }
+  saves_whole = record { ended = put_ended; fault = put_fault; began_ended = put_began; began_fault = put_gave_up; told_ended = put_told; told_fault = put_told_none; fits = λ earlier. tt; evicts = λ a h. h; alone = save_alone url body }
 
 module _ {C O : Type 0} (tells : Bool) (state : C → CellState) (offers : O → Offers) (s : Store C O) (told : Bool) (past : Past) (served : List Served) (line : Line) (url : List ℕ) (body : Body) (durable : Bool) (p q : Pass C) where
   abbrev g : Ground (List ℕ)
@@ -149,7 +150,7 @@ module _ {C O : Type 0} (tells : Bool) (state : C → CellState) (offers : O →
               (begun_above r.setting.anchors (view p) l url x is.named (let later = begun_later k.began.took in let same = ended_version tells state offers s whole_tab e0 k.middle q ended k.ends in omega arith) (putting.told_ended ended))
               (OfPutting g (name_of g e) (view q).seen ended)
               (serving.put tells state offers s whole_tab offer url durable p q k)
-              (λ d. of_putting r (view q) served l d g (λ unfit. record { may = ended_evicts ended; wants = unfit }) (name_of g e) (view q).seen ended
+              (λ d. of_putting r (view q) served l d g (λ unfit. record { may = putting.evicts (answer_to_ended ended) (ended_evicts ended); wants = unfit }) (name_of g e) (view q).seen ended
               (record { anchor = record { url = url; named_is = is.named; anchor = refl }; drew = refl; began = putting.began_ended ended })
               (grows g e l first served l begun_is (view q)) refl)
               shows
@@ -178,7 +179,7 @@ module _ {C O : Type 0} (tells : Bool) (state : C → CellState) (offers : O →
           looked = 0;
           adds = adds_drawing r (view p) (view q) served l (λ b y h. absurd (putting.told_fault fault y h.told)) (OfPuttingInVain g (name_of g e) (view q).seen)
               (serving.gave_up tells state offers s whole_tab offer url durable p q k)
-              (λ d. of_putting_in_vain r (view q) served l d g (λ unfit. record { may = fault_evicts fault; wants = unfit }) (name_of g e) (view q).seen
+              (λ d. of_putting_in_vain r (view q) served l d g (λ unfit. record { may = putting.evicts (answer_to_fault fault) (fault_evicts fault); wants = unfit }) (name_of g e) (view q).seen
               (record { anchor = record { url = url; named_is = is.named; anchor = refl }; drew = refl; began = putting.began_fault fault x })
               (grows g e l first served l begun_is (view q)) (halts g e l first served l begun_is (gives_up_fault fault)))
               none

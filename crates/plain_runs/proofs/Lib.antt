@@ -24,6 +24,7 @@ pub mod ServedLines
 pub mod QuietSteps
 pub mod Freeing
 pub mod LeftAnchors
+pub mod Wiping
 pub mod LeftTabs
 pub mod Totals
 pub mod Holding

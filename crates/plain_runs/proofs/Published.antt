@@ -115,7 +115,7 @@ module _ (g : Ground (List ℕ)) where
   anchor_there v t w st pass below is = standing.anchor_inside g v st t w (tab_there v t (Writing w) (let n = pass in let b = below in omega arith) is)
 
   -- a cell that comes back changes no word that the pass has
-  returned_has : (tab : Tab (List ℕ)) (t slot : ℕ) (c : Cell (List ℕ)) (v u : View (List ℕ)) → IsReturned g.setting tab t slot c v u → (q : Place) → has g u q ≡ has g v q
+  pub returned_has : (tab : Tab (List ℕ)) (t slot : ℕ) (c : Cell (List ℕ)) (v u : View (List ℕ)) → IsReturned g.setting tab t slot c v u → (q : Place) → has g u q ≡ has g v q
   returned_has (Writing w) t slot c v u h q = has_same g v u (ap View.mirror h.2) (ap View.trail h.2) q
   returned_has Free t slot c v u h q = ap (λ (z : View (List ℕ)). has g z q) h
   returned_has (Retreating a) t slot c v u h q = ap (λ (z : View (List ℕ)). has g z q) h

@@ -35,7 +35,7 @@ use Rattle.plain_runs.proofs.GetLines.{gets_as}
 use Rattle.plain_runs.proofs.ServedLines.{RequestsRight, free_not_reading, free_not_writing, reads_not_free, reads_not_writing, request_right, writes_not_free, writes_not_reading}
 use Rattle.plain_runs.proofs.Opening.{closes_as, mores_as, opens_as}
 use Rattle.plain_runs.proofs.OtherTabs.{IsOwn, close_else, give_up_keeps}
-use Rattle.plain_runs.proofs.PurgeLines.{purges_as}
+use Rattle.plain_runs.proofs.PurgeLines.{purges_as, wipes_as}
 use Rattle.plain_runs.proofs.ShowingOthers.{OneBegins, shows_after}
 use Rattle.plain_runs.proofs.WritingLines.{adds_as, drops_as, ends_as, puts_as}
 
@@ -53,6 +53,7 @@ module _ {C O : Type 0} (tells : Bool) (state : C → CellState) (offers : O →
       closes = λ t anchor given is_other p q a plain below h reads met. closes_as tells state offers s lone t anchor given is_other p q a plain below h reads met.stays met;
       gets = λ url p q a plain h free typed fair met. gets_as tells state offers s lone begins known file from sized url p q a plain h free typed fair met.stays met;
       purges = λ url p q a plain h free typed met. purges_as tells state offers s lone url p q a plain h free typed met.stays met;
+      wipes = λ url p q a plain h free typed fair met. wipes_as tells state offers s lone url p q a plain h free typed fair met.stays met;
     }
       where
         read_stays : (t anchor given : ℕ) (is_other : Bool) (p q : Pass C) (a : Answer) (plain : Plain) → t < 8 → Shows tells state offers s (λ v. v) p plain → tab_at plain t ≡ Reading anchor given is_other

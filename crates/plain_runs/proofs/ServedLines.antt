@@ -9,7 +9,7 @@ use Rattle.script_text.specs.declared.answer.Answer.TheVariants as answer
 use Rattle.script_text.specs.declared.body.Body.{Body}
 use Rattle.script_text.specs.declared.line.Line.{Line}
 use Rattle.script_text.specs.declared.request.Request.{Request}
-use Rattle.script_text.specs.declared.request.Request.TheVariants.{Add, Await, Begin, CloseTab, DropTab, End, Get, Mark, More, OpenTab, Purge, Put, Save}
+use Rattle.script_text.specs.declared.request.Request.TheVariants.{Add, Await, Begin, CloseTab, DropTab, End, Get, Mark, More, OpenTab, Purge, Put, Save, Wipe}
 use Rattle.core_model.specs.Tabs.{inner, tab_at as view_tab}
 use Rattle.core_model.specs.declared.tab.Tab.TheVariants as tab
 use Rattle.plain_model.specs.declared.store.Plain.{Plain}
@@ -18,7 +18,7 @@ use Rattle.plain_model.specs.declared.store.Tab.{Tab}
 use Rattle.plain_model.specs.declared.store.Tab.TheVariants.{Free, Reading, Writing}
 use Rattle.plain_model.specs.Store.{tab_at}
 use Rattle.plain_model.specs.Writing.{Step, add, begin, end, give_up, step}
-use Rattle.plain_model.specs.Reading.{close, more, open_tab, purge}
+use Rattle.plain_model.specs.Reading.{close, more, open_tab, purge, wipe}
 use Rattle.plain_model.specs.Serving.{bytes_of, get, leave, put, serve}
 use Rattle.store_rule.specs.declared.store.Pass.{Pass}
 use Rattle.store_rule.specs.declared.store.Store.{Store}
@@ -33,7 +33,7 @@ use Rattle.store_serve.specs.Answers.{is_fault}
 use Rattle.store_serve.specs.Reading.{Closes, Opens, ReadsOn}
 use Rattle.store_serve.specs.Serving.{MayAsk, Serves, ServesRequest, Takes, offer_of}
 use Rattle.store_serve.specs.Tabs.{IsFree, IsMet, IsOffered, IsReading, IsTurnedAway, IsWriting, Leaves}
-use Rattle.store_serve.specs.Whole.{Gets, Purges, Puts, whole_tab}
+use Rattle.store_serve.specs.Whole.{Gets, Purges, Puts, Wipes, whole_tab}
 use Rattle.store_serve.specs.Writing.{AddsTo, Begins, Drops, EndsEntry}
 use Rattle.worker_shelf.proofs.Holding.{Stays}
 use Rattle.worker_shelf.specs.Typed.{IsTyped}
@@ -75,6 +75,7 @@ module _ {C O : Type 0} (tells : Bool) (state : C → CellState) (offers : O →
     pub closes : (t anchor given : ℕ) (is_other : Bool) (p q : Pass C) (a : Answer) (plain : Plain) → t < 8 → ShowsPlain p plain → tab_at plain t ≡ Reading anchor given is_other → Closes tells state offers s t p a q → IsAs a q t (close t plain)
     pub gets : (url : List ℕ) (p q : Pass C) (a : Answer) (plain : Plain) → ShowsPlain p plain → tab_at plain whole_tab ≡ Free → IsTyped a → is_fault a ≡ false → Gets tells state offers s url p a q → IsAs a q whole_tab (get setting url plain)
     pub purges : (url : List ℕ) (p q : Pass C) (a : Answer) (plain : Plain) → ShowsPlain p plain → tab_at plain whole_tab ≡ Free → IsTyped a → Purges tells state offers s url p a q → IsAs a q whole_tab (purge setting url plain)
+    pub wipes : (url : List ℕ) (p q : Pass C) (a : Answer) (plain : Plain) → ShowsPlain p plain → tab_at plain whole_tab ≡ Free → IsTyped a → is_fault a ≡ false → Wipes tells state offers s url p a q → IsAs a q whole_tab (wipe setting url plain)
 
   -- What a tab of the pass is, the plain store has it as.
   module _ (p : Pass C) (plain : Plain) (h : ShowsPlain p plain) (t : ℕ) (below : t < 8) where
@@ -163,6 +164,7 @@ module _ {C O : Type 0} (tells : Bool) (state : C → CellState) (offers : O →
       request_right (Save url body) asks served leaves = after_all 7 _ (omega arith) (leaves 7 refl) (right.puts offer url body true p q a plain h whole fair asks typed served) (put_keeps setting plain url (bytes_of body) offer)
       request_right (Get url) asks served leaves = after_all 7 _ (omega arith) (leaves 7 refl) (right.gets url p q a plain h whole typed fair served) (get_else setting plain (IsOwn 7 plain) url)
       request_right (Purge url) asks served leaves = after_all 7 _ (omega arith) (leaves 7 refl) (right.purges url p q a plain h whole typed served) (purge_else 7 (IsOwn 7 plain) setting plain url)
+      request_right (Wipe url) asks served leaves = after_all 7 _ (omega arith) (leaves 7 refl) (right.wipes url p q a plain h whole typed fair served) (purge_else 7 (IsOwn 7 plain) setting plain url)
       request_right (Begin t url body) asks served leaves = let below : t < 8 = let b = asks.0 in omega arith in after_all t _ below (leaves t refl)
           (on_free p plain h t below a q _ (Begins tells state offers s t p a q offer url) served (λ free met. right.begins t offer url body p q a plain below h free asks.1 typed met) (λ at is. rw is refl) (λ at given is_other is. rw is refl))
           (begin_keeps setting plain t url (bytes_of body) offer)
