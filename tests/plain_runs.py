@@ -35,12 +35,13 @@ POOL = SHORT + [b"http://host.example/" + b"x" * 300, b"M" * 440]
 KINDS = """
     STORED DOOMED SPENT LONGURL FULL LARGE HIT END HALTED BEGUN ADDED DROPPED OPEN CLOSED MARKED MET UNMET
     BUSY_1 BUSY_2 BUSY_2d BUSY_3 BUSY_3d BUSY_4 BUSY_4d PART_2 PART_2d PURGED_2d PURGED_3d
+    WIPED_3d LATER_2d LATER_3d
     MISS_absent_0 MISS_absent_6 MISS_absent_6d MISS_writing_1 MISS_leaving_2d MISS_leaving_3d MISS_leaving_4
     MISS_leaving_4d MISS_other_2 MISS_other_3
     NONE_absent_0 NONE_absent_6 NONE_absent_6d NONE_writing_1 NONE_leaving_2d NONE_leaving_3d NONE_leaving_4
     NONE_leaving_4d NONE_other_2 NONE_other_3
     TAB_begin TAB_add TAB_end TAB_drop TAB_open TAB_more TAB_close
-    put save get purge begin add end drop open more close mark await
+    put save get purge wipe begin add end drop open more close mark await
     evicted evicted_behind_the_hand evicted_in_vain refused_at_the_first_publishing refused_at_a_later_publishing
     refused_at_the_last_slot HIT_of_the_file HIT_of_many_slots replaced found_whole
     tied_in_the_file counter_of_no_entry
@@ -294,6 +295,10 @@ class Store:
         self.settle(self.anchor(url))
         return f"PURGED {epoch}"
 
+    def wipe(self, url):
+        goes = self.is_idle(self.anchor(url))
+        return self.purge(url).replace("PURGED", "WIPED" if goes else "LATER")
+
     def mark(self, mark):
         self.marks.add(mark)
         return "MARKED"
@@ -344,10 +349,10 @@ def kind_of(name, answer):
 # Files and scripts.
 # The requests that are made: those that a tab is ready for, those that free it, those of no tab, and all. At times a
 # script has other shares of each.
-READY = {type(None): "begin open open", Writer: "add add add add add purge end drop", Reader: "more more more close"}
+READY = {type(None): "begin open open", Writer: "add add add add add purge wipe end drop", Reader: "more more more close"}
 FREEING = {type(None): "put get", Writer: "end drop", Reader: "close"}
-WHOLE = "put put put put save save get get get get purge purge mark await"
-EVERY = "put save get purge begin add end drop open more close mark await"
+WHOLE = "put put put put save save get get get get purge wipe mark await"
+EVERY = "put save get purge wipe begin add end drop open more close mark await"
 SHARES = [(6, 0, 3, 1), (6, 0, 3, 1), (4, 0, 9, 1), (2, 0, 12, 1), (0, 9, 6, 1)]
 
 
@@ -368,7 +373,7 @@ def url_for(chance, store, urls, name):
     readable = [url for url in urls if causes[url] is None]
     grows = [url for url in readable if store.place(url).stage() == APPENDING]
     leaving = [url for url in urls if causes[url] and causes[url].startswith("leaving")]
-    others = leaving or grows or readable if name == "purge" else grows or readable
+    others = leaving or grows or readable if name in ("purge", "wipe") else grows or readable
     fitting = vacant if name in ("put", "save", "begin") else others
     return chance.choice(fitting if fitting and chance.random() < 0.5 else urls)
 
@@ -385,7 +390,7 @@ def line_for(chance, store, urls, shares):
         name = "await"
     if name in ("put", "save"):
         return [name, url, body_for(chance, url)]
-    if name in ("get", "purge"):
+    if name in ("get", "purge", "wipe"):
         return [name, url]
     rest = {"begin": [url, body_for(chance, url)], "open": [url], "add": [count]}.get(name, [])
     return [name, mark] if name in ("mark", "await") else [name, tab, *rest]

@@ -180,9 +180,9 @@ pub fn hit_versions_were_printed<X>()
         → opening_counter r.setting < x → IsBodyAsPrinted r crew a x url bytes }
 {}
 
-/// OPEN, HIT and PURGED come of an entry that was found at an epoch of the printed version, at which it may be read. A
-/// version that OPEN, HIT, PURGED or the PART of a `get` tells is that of an entry with the key of the URL: of the one
-/// that the anchor had at the opening, which it did have, or of the line that began the version.
+/// OPEN, HIT, PURGED, WIPED and LATER come of an entry that was found at an epoch of the printed version, at which it may
+/// be read. A version that one of these or the PART of a `get` tells is that of an entry with the key of the URL: of the
+/// one that the anchor had at the opening, which it did have, or of the line that began the version.
 pub fn entries_found_were_there<X>()
     ensures opened { (r : Run X) (crew : List (Worker X)) (x : ℕ) → Closed r crew → (p : LineIn crew (λ earlier s. FindsEntry s.answer x))
         → (version_of p.served.opened ≡ x) × (is_readable p.served.opened ≡ true) }
@@ -222,7 +222,7 @@ pub fn other_urls_have_the_key<X>()
 {}
 
 /// A word of BUSY has more readers than the worker's own tabs that read there only where another worker
-/// opens, gets or purges a URL of the anchor.
+/// opens, gets, purges or wipes a URL of the anchor.
 pub fn more_readers_come_from_others<X>()
     ensures { (r : Run X) (crew : List (Worker X)) (a : ℕ) → Closed r crew
         → (p : LineIn crew (λ earlier s. PrintsReaders r.setting.anchors earlier s a)) → AnotherComes r crew p.j a }

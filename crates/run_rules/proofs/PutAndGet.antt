@@ -17,7 +17,7 @@ use Rattle.core_model.specs.Anchors.{opening_counter, opening_epoch}
 use Rattle.core_model.proofs.Lists.{cons_contains, contains_none}
 use Rattle.line_account.specs.Accounts.{Shows}
 use Rattle.line_account.specs.Alone.{alone, home, next_version, nothing}
-use Rattle.line_account.specs.Answers.{Refuses, Run, bytes_with}
+use Rattle.line_account.specs.Answers.{Refuses, Run, TellsDoom, bytes_with}
 use Rattle.line_account.specs.Bodies.{HaveBodies, HaveKeys}
 use Rattle.line_account.specs.Closing.{BegunIn, HaltedIn, LineIn, PrintsDoomed, PrintsHalted, Stores, TellsBegunIn, Worker}
 use Rattle.line_account.specs.Crews.{IsAmong, KnewOf}
@@ -283,8 +283,8 @@ module _ {X : Type 0} (r : Run X) (url : List ℕ) (m : MayBegin r url) (w : Wor
     halted_line = λ b p. absurd (never (λ earlier s. PrintsHalted r.setting.anchors earlier s b) (λ h. let k : answer.Hit x [] ≡ answer.Halted h.bytes = h.printed in cc) (λ h. let k : answer.Stored x ≡ answer.Halted h.bytes = h.printed in cc) p);
     doomed = λ b e p one. absurd (let s = (shown b e p).1 in omega arith);
     doomed_line = λ b y p. absurd (never (λ earlier s. PrintsDoomed r.setting.anchors earlier s b y) (λ h. let k : answer.Hit x [] ≡ answer.Doomed y = h.printed in cc) (λ h. let k : answer.Stored x ≡ answer.Doomed y = h.printed in cc) p);
-    purged = λ e p. absurd (never (λ earlier s. s.answer ≡ answer.Purged e) (λ h. let k : answer.Hit x [] ≡ answer.Purged e = h in cc) (λ h. let k : answer.Stored x ≡ answer.Purged e = h in cc) p);
-    purged_stage = λ e p. absurd (never (λ earlier s. s.answer ≡ answer.Purged e) (λ h. let k : answer.Hit x [] ≡ answer.Purged e = h in cc) (λ h. let k : answer.Stored x ≡ answer.Purged e = h in cc) p);
+    purged = λ e p. absurd (never (λ earlier s. TellsDoom s.answer e) (λ h. h) (λ h. h) p);
+    purged_stage = λ e p. absurd (never (λ earlier s. TellsDoom s.answer e) (λ h. h) (λ h. h) p);
     given_back = λ b e p undoomed four. absurd (let s = (shown b e p).1 in omega arith);
     given_back_new = λ fit b e p undoomed four. absurd (let s = (shown b e p).1 in omega arith);
   }
