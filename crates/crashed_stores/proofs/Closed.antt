@@ -1,5 +1,5 @@
 -- A store that was closed: all its cells are at home, and no tab holds one.
-use Rattle.std.proofs.Common.{◌≡◌, ◌⊎◌, inl, ⊎_elim, ◌<◌, ◌≤◌, ◌^◌, ℕ, List, [], ◌∷◌, Option, Some, None, Bool, true, false, IsTrue, Contains, arith, get_or, length, map, refl, subst, ◌∙◌, zero, suc}
+use Rattle.std.proofs.Common.{◌≡◌, ◌⊎◌, inl, inr, ◌<◌, ◌≤◌, ◌^◌, ℕ, List, [], ◌∷◌, Option, Some, None, Bool, true, false, IsTrue, Contains, arith, get_or, length, map, refl, subst, ◌∙◌, zero, suc}
 use Rattle.std.specs.Prelude.{slice_index_or}
 use Rattle.std.proofs.lemmas.List.{length-map}
 use Rattle.std.specs.Global.{Vec}
@@ -12,9 +12,10 @@ use Rattle.core_model.specs.declared.tab.Tab.{Tab}
 use Rattle.core_model.specs.declared.tab.Tab.TheVariants.{Free}
 use Rattle.core_model.specs.declared.tab.Turn.TheVariants.{Has}
 use Rattle.core_model.specs.declared.view.View.{View}
-use Rattle.core_model.specs.Cells.{IsHeldCell}
+use Rattle.core_model.specs.Cells.{IsCell, IsHeldCell}
 use Rattle.core_model.specs.State.{State}
 use Rattle.core_model.specs.Tabs.{turn_of}
+use Rattle.core_log.specs.Within.{IsPossible}
 use Rattle.crash_entries.proofs.Telling.{Tools}
 use Rattle.store_rule.specs.declared.store.Pass.{Pass}
 use Rattle.store_rule.specs.declared.store.Store.{Store}
@@ -23,6 +24,7 @@ use Rattle.store_rule.specs.Ground.{Ground, Offers}
 use Rattle.store_rule.specs.Passes.{basis}
 use Rattle.store_rule.specs.Setting.{shown}
 use Rattle.rock_open.specs.Opening.{IsStoreOver}
+use Rattle.wiped_entries.specs.Now.{IsLeftNow}
 use Rattle.crashed_stores.specs.Left.{IsLeftOf, IsOfOrigin, bytes_now}
 use Rattle.crashed_stores.proofs.Over.{left_responses}
 
@@ -51,18 +53,29 @@ module _ {C : Type 0} (cell : C → CellState) (g : Ground (List ℕ)) (views : 
       not_free : (x : Tab (List ℕ)) → x ≡ Free → turn_of x ≡ Has q.hold → ⊥
       not_free x e t = cc
 
-  pub closed_left : (images : List (List ℕ)) → IsCrashImage (map cell cells) images → IsLeftOf g s h.gathered.rule.logged.log images
-  closed_left images left = record {
-    many = left.count ∙ length-map cells cell ∙ h.many;
-    each = λ slot c lt q. ⊎_elim
-        (λ (home : slice_index_or s.places slot None ≡ Some c). let d = shown_at cell cells slot c (subst (λ (z : List (Option (Cell (List ℕ)))). slice_index_or z slot None ≡ Some c) h.home home) in
-        inl (image_at images slot, subst (λ (z : List (List ℕ)). Contains z (image_at images slot)) d.1 (left.each slot d.0), refl))
-        (λ (held : IsHeldCell s slot c). absurd (none_held slot c held)) q;
-  }
+  -- of each slot a crash leaves what it may leave of the cell that has come home
+  module _ (images : List (List ℕ)) (left : IsCrashImage (map cell cells) images) where
+    closed_possible : (slot : ℕ) (c : Cell (List ℕ)) → IsCell s slot c → IsPossible (λ x. x) c (image_at images slot)
+    closed_possible slot c (inl home) = let d = shown_at cell cells slot c (subst (λ (z : List (Option (Cell (List ℕ)))). slice_index_or z slot None ≡ Some c) h.home home) in
+        (image_at images slot, subst (λ (z : List (List ℕ)). Contains z (image_at images slot)) d.1 (left.each slot d.0), refl)
+    closed_possible slot c (inr held) = absurd (none_held slot c held)
+
+    closed_many : length images ≡ g.setting.slots
+    closed_many = left.count ∙ length-map cells cell ∙ h.many
+
+    pub closed_left : IsLeftOf g s h.gathered.rule.logged.log images
+    closed_left = record { many = closed_many; each = λ slot c lt q. inl (closed_possible slot c q) }
+
+    pub closed_now : IsLeftNow g.setting (λ x. x) s images
+    closed_now = record { many = closed_many; each = λ slot c lt q. inl (closed_possible slot c q) }
 
 pub told_left : {C : Type 0} → (tells : Bool) → IsTrue tells → (cell : C → CellState) (g : Ground (List ℕ)) (views : List (View (List ℕ))) (cells : List C) (h : Closed tells cell g views cells) (images : List (List ℕ)) → IsCrashImage (map cell cells) images → IsLeftOf g h.gathered.state h.gathered.rule.logged.log images
 told_left true t cell g views cells h images left = closed_left cell g views cells h images left
 told_left false t cell g views cells h images left = cc
+
+pub told_now : {C : Type 0} → (tells : Bool) → IsTrue tells → (cell : C → CellState) (g : Ground (List ℕ)) (views : List (View (List ℕ))) (cells : List C) (h : Closed tells cell g views cells) (images : List (List ℕ)) → IsCrashImage (map cell cells) images → IsLeftNow g.setting (λ x. x) h.gathered.state images
+told_now true t cell g views cells h images left = closed_now cell g views cells h images left
+told_now false t cell g views cells h images left = cc
 
 module _ {C O : Type 0} (tells : Bool) (told : IsTrue tells) (cell : C → CellState) (offers : O → Offers) (slot anchors many : ℕ) (origin : O) (cells : List C) (store : Store C O) (passes : Vec (Pass C))
     (over : IsStoreOver tells cell offers slot anchors many origin cells store passes) (views : List (View (List ℕ))) (closed : List C) (h : Closed tells cell (basis tells cell offers store) views closed) where

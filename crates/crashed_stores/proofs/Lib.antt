@@ -5,3 +5,4 @@ pub mod Durable
 pub mod Kept
 pub mod Finished
 pub mod Standing
+pub mod Gone

@@ -7,6 +7,7 @@ ghost use lib.ListN.{get_elem?};
 ghost use Rattle.core_model.specs.Cells.{IsCell};
 ghost use Rattle.core_model.specs.declared.tab.Cell.{Cell as CoreCell};
 ghost use Rattle.rock_disk.specs.Crash.{IsCrashImage};
+ghost use Rattle.core_model.specs.declared.view.Sight.TheVariants.{Wiped};
 ghost use Rattle.core_model.specs.declared.view.View.{View};
 ghost use Rattle.core_model.specs.State.{State, chain_of, word};
 ghost use Rattle.rebuild_model.specs.Entry.{Entry, IsComplete};
@@ -19,6 +20,8 @@ ghost use Rattle.crash_laws.specs.Left.{entry_at};
 ghost use Rattle.rock_writer.specs.Durable.{LoggedWhole};
 ghost use Rattle.rock_writer.specs.Entries.{Entry as Written};
 ghost use Rattle.crashed_stores.specs.Finished.{AreSeen, IsFoundIn};
+ghost use Rattle.wiped_entries.specs.Now.{IsLeftNow};
+ghost use Rattle.crashed_stores.specs.Gone.{HaveNone};
 ghost use Rattle.crashed_stores.specs.Left.{IsDurableEntry, IsLeftOf, IsOfOrigin, bytes_now, offers_in};
 ghost use Rattle.crashed_stores.specs.Within.{IsLeftWithin};
 ghost use Rattle.crashed_stores.specs.Standing.{HaveEntry, IsLasting, offer_at};
@@ -118,6 +121,29 @@ pub fn kept_entries_outlive_crashes<C: Cell, O: Origin>()
     keys_have_16_bytes();
     one_entry_at_a_slot();
     one_winner_at_an_anchor();
+    pieces_make_the_content();
+    placed_pieces_are_an_entry();
+    written_meta_is_spelled();
+}
+
+/// An entry whose first slot was wiped, as `purge_entry::purge_durable` leaves it where it answers `Gone`: a pass has seen so,
+/// with this view. In nothing that a crash leaves from then on is there a complete entry of its version that begins at the
+/// slot, and where the version is above the greatest one of the file at the opening, there is none of it at all. So it is of
+/// each state, also while any number of workers write and wipe slots (`running`), and of the cells of a store that was
+/// closed (`closed`).
+pub fn wiped_entries_do_not_come_back<C: Cell, O: Origin>()
+    ensures running { (slot anchors many : ℕ) (origin : O) (cells : List C) (store : Store C O) (passes : Vec (Pass C)) (s : State (List ℕ)) (images : List (List ℕ)) (v : View (List ℕ)) (a version wiped : ℕ)
+        → IsTrue C.tells → slot < 2 ^ 32 → length cells ≤ MOST_SLOTS → IsStoreOver C.tells C.state O.offers slot anchors many origin cells store passes
+        → Rule (basis C.tells C.state O.offers store) s → IsLeftNow (basis C.tells C.state O.offers store).setting (λ x. x) s images
+        → Contains v.seen (Wiped a version wiped) → AreSeen s v → HaveNone slot (basis C.tells C.state O.offers store) version wiped images }
+    ensures closed { (slot anchors many : ℕ) (origin : O) (cells : List C) (store : Store C O) (passes : Vec (Pass C)) (views : List (View (List ℕ))) (left : List C) (images : List (List ℕ)) (v : View (List ℕ)) (j a version wiped : ℕ)
+        → IsTrue C.tells → slot < 2 ^ 32 → length cells ≤ MOST_SLOTS → IsStoreOver C.tells C.state O.offers slot anchors many origin cells store passes
+        → Closed C.tells C.state (basis C.tells C.state O.offers store) views left → IsCrashImage (map C.state left) images
+        → get_elem? views j ≡ some v → Contains v.seen (Wiped a version wiped) → HaveNone slot (basis C.tells C.state O.offers store) version wiped images }
+{
+    images_are_read_as_built();
+    keys_have_16_bytes();
+    one_entry_at_a_slot();
     pieces_make_the_content();
     placed_pieces_are_an_entry();
     written_meta_is_spelled();

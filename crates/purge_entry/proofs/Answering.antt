@@ -28,33 +28,18 @@ use Rattle.rock_reader.specs.Opening.{CameTo, MayCome, opened}
 use Rattle.rock_reader.proofs.Coming.{fresh_on, parted_sees, step_sees}
 use Rattle.rock_reader.proofs.Parting.{follows_both, follows_tab, free_is}
 use Rattle.purge_entry.specs.Purging.{DoomedEntry, MayPurge, Purged}
+use Rattle.purge_entry.proofs.Doomed.{dooms, left_fresh, version_is}
 use Rattle.purge_entry.proofs.Growing.{Grows, fresh_grows, grows_key, grows_on, grows_parted, grows_step}
 
--- What a doom leaves: the doom bit, and the version that the tab reads.
 module _ {X : Type 0} (g : Ground X) (anchor : ℕ) (wanted : List ℕ) (e : Epoch) (v : View X) (left : Epoch) (w : View X) (entry : DoomedEntry g inner anchor wanted e v left w) where
-  pub dooms : left.doom ≡ true
-  dooms = same_doom left.doom true (let a = doom_of-epoch_number left in let b = doom_of-doomed entry.word in let c = ap doom_of entry.left_is in omega (arith, a, b, c))
-
-  stands : version_of (epoch_of entry.word) ≡ e.version
-  stands = subst (λ (x : Tab X). HasVersion x entry.word) entry.reads (known_of g entry.keyed (Doom inner) entry.word entry.after entry.doom).anchors.2
-
-  pub version_is : left.version ≡ e.version
-  version_is = sym (version_of-epoch_number left) ∙ ap version_of entry.left_is ∙ version_of-doomed entry.word ∙ stands
-
-  at_anchor : anchor_of (tab_at entry.keyed inner) ≡ anchor
-  at_anchor = ap (λ (x : Tab X). anchor_of x) entry.reads
-
-  left_fresh : IsFresh anchor (epoch_number left) entry.keyed entry.after
-  left_fresh = subst (λ (n : ℕ). IsFresh anchor n entry.keyed entry.after) (sym entry.left_is)
-      (fresh_epochs g entry.keyed entry.after (Doom inner) entry.word anchor entry.doom (ap (λ (n : ℕ). Some (Rattle.core_model.specs.declared.view.Place.Place.Anchor n)) at_anchor) tt)
-
   pub grows_entry : Grows v w
   grows_entry = grows_on v entry.keyed w (grows_key g v entry.keyed inner wanted entry.key)
       (grows_on entry.keyed entry.after w (grows_step g entry.keyed entry.after _ _ entry.doom) (grows_parted g entry.after w inner entry.parted))
 
   -- for all that a pass did since the view u
   pub fresh_since : (u : View X) → Grows u v → IsFresh anchor (epoch_number left) u w
-  fresh_since u first = fresh_grows anchor (epoch_number left) u entry.keyed entry.after w (grows_on u v entry.keyed first (grows_key g v entry.keyed inner wanted entry.key)) left_fresh
+  fresh_since u first = fresh_grows anchor (epoch_number left) u entry.keyed entry.after w (grows_on u v entry.keyed first (grows_key g v entry.keyed inner wanted entry.key))
+      (left_fresh g anchor e entry.keyed entry.reads entry.word entry.after entry.doom left entry.left_is)
       (grows_parted g entry.after w inner entry.parted)
 
 module _ {C O : Type 0} (tells : Bool) (state : C → CellState) (offers : O → Offers) (s : Store C O) (p : Pass C) (url : List ℕ) (may : MayPurge tells state offers s p url) where
@@ -68,7 +53,7 @@ module _ {C O : Type 0} (tells : Bool) (state : C → CellState) (offers : O →
   may_come = record { own = may.own; below = omega arith; free = free; inner_free = may.inner_free; names = may.names }
 
   module _ (e : Epoch) (q : Pass C) (own : IsOf tells state offers s q) (came : CameTo g inner url (view p) e (view q)) where
-    reads : tab_at (view q) inner ≡ Tab.Reading (opened (anchor_for g url) e.version)
+    pub reads : tab_at (view q) inner ≡ Tab.Reading (opened (anchor_for g url) e.version)
     reads = ap (λ (xs : List (Tab (List ℕ))). get_or xs inner Tab.Free) came.tabs
         ∙ get_or-set_same (view p).tabs inner (Tab.Reading (opened (anchor_for g url) e.version)) Tab.Free (let n = pass_of p in omega arith)
 
@@ -102,7 +87,7 @@ module _ {C O : Type 0} (tells : Bool) (state : C → CellState) (offers : O →
           ∙ ap (set (view p).tabs inner) (sym free) ∙ set-get_or (view p).tabs inner Tab.Free
 
       module _ (left : Epoch) (is : epoch_number left ≡ epoch_of told) (w : View (List ℕ)) (parted : Parted g inner (view u) w) where
-        left_is : epoch_number left ≡ epoch_of (doomed made.found)
+        pub left_is : epoch_number left ≡ epoch_of (doomed made.found)
         left_is = is ∙ ap epoch_of made.answers
 
         entry : DoomedEntry g inner (anchor_for g url) (key_of url) e came.entered left w
@@ -120,7 +105,7 @@ module _ {C O : Type 0} (tells : Bool) (state : C → CellState) (offers : O →
           };
           readable = came.readable;
           entry = entry;
-          dooms = dooms g (anchor_for g url) (key_of url) e came.entered left w entry;
-          version_is = version_is g (anchor_for g url) (key_of url) e came.entered left w entry;
+          dooms = dooms g (anchor_for g url) e (view q) reads made.found (view u) made.step left left_is;
+          version_is = version_is g (anchor_for g url) e (view q) reads made.found (view u) made.step left left_is;
           fresh = fresh_since g (anchor_for g url) (key_of url) e came.entered left w entry (view p) (grows_step g (view p) came.entered _ _ came.came.enter);
         }

@@ -1,2 +1,5 @@
 mod Growing
+mod Doomed
 mod Answering
+mod Following
+mod Wiping
