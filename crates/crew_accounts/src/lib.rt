@@ -16,6 +16,6 @@ pub use closed::{crews_are_closed, faults_are_counted};
 pub use course::{ends_leave, lines_add, marks_add, new_passes_track};
 pub use openings::opened_stores_have_runs;
 pub use reading::{closes_add, gets_add, mores_add, opens_add, purges_add, wipes_add};
-pub use saved::{closed_entries_are_of_lines, saved_entries_stay_known};
+pub use saved::{closed_entries_are_of_lines, saved_entries_stay_known, wiped_slots_stay_seen};
 pub use shelves::shelves_have_courses;
 pub use writing::{adds_add, begins_add, drops_add, ends_add, puts_add};
