@@ -134,6 +134,7 @@ pub(crate) fn close(store: &mut Plain, tab: u8) -> Answer
 }
 
 /// An entry that was doomed.
+#[derive(Clone, Copy)]
 struct Doomed {
     /// The doomed epoch.
     epoch: Epoch,
@@ -168,9 +169,7 @@ pub(crate) fn purge(setting: &Setting, store: &mut Plain, url: &[u8]) -> Answer
     ensures { purge setting.now url.now store.old ≡ step result store.new }
 {
     match doom(setting, store, url) {
-        Ok(doomed) => Answer::Purged {
-            epoch: doomed.epoch,
-        },
+        Ok(Doomed { epoch, .. }) => Answer::Purged { epoch },
         Err(cause) => Answer::NoEntry { cause },
     }
 }
