@@ -1,5 +1,5 @@
 -- Which line the deeds of a call belong to.
-use Rattle.std.proofs.Common.{Contains, List, None, Some, ap, arith, false, inl, inr, refl, subst, sym, true, ⊎_elim, ◌∙◌, ◌<◌, ◌≡◌, ◌≤◌, ℕ}
+use Rattle.std.proofs.Common.{Contains, List, None, Some, ap, arith, false, inl, inr, refl, subst, sym, true, ℕ, ⊎_elim, ◌∙◌, ◌<◌, ◌≡◌, ◌≤◌, ◌⊎◌}
 use Rattle.std.specs.Prelude.{IsTrue, ◌↔◌}
 use Rattle.lock_word.specs.Words.{doom_of, epoch_number, version_of as version_in}
 use Rattle.lock_word.specs.declared.epoch.Epoch.{Epoch}

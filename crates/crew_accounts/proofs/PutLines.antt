@@ -11,7 +11,7 @@ use Rattle.script_text.specs.declared.request.Request.{Request}
 use Rattle.script_text.specs.declared.request.Request.TheVariants.{Put, Save}
 use Rattle.line_account.specs.Accounts.{HasFinished}
 use Rattle.line_account.specs.Answers.{Run}
-use Rattle.line_account.specs.Deeds.{Began, Grows, TellsBegun}
+use Rattle.line_account.specs.Deeds.{Began, Grows, MayEvict, NeededSlots, TellsBegun}
 use Rattle.line_account.specs.Lines.{Fits, Served}
 use Rattle.line_account.specs.Requests.{IsAnswerTo}
 use Rattle.store_rule.specs.declared.store.Pass.{Pass}

@@ -24,7 +24,7 @@ use Rattle.core_model.specs.Anchors.{opening_counter}
 use Rattle.script_text.specs.Requests.{url_in}
 use Rattle.line_account.specs.Lines.{LineOf, Offers, Served, gives_up, offers, writing, url_at, begins, ends}
 use Rattle.line_account.specs.Deeds.{Began, Begins as BeginsVersion, Halts, PrintsBegunVersion, TellsBegun}
-use Rattle.line_account.specs.Answers.{Run}
+use Rattle.line_account.specs.Answers.{Run, TellsDoom}
 use Rattle.line_account.specs.Accounts.{Shows, epochs_of, epoch_in}
 use Rattle.line_account.specs.Courses.{Stage, lines_in, Course}
 use Rattle.line_account.specs.Closing.{BegunIn, Closed, HaltedIn, LineIn, ShownIn, Worker, offered, offered_by}

@@ -18,7 +18,7 @@ use Rattle.core_model.proofs.Lists.{cons_contains, contains_none}
 use Rattle.line_account.specs.Deeds.{PrintsBegunVersion}
 use Rattle.line_account.specs.Lines.{IsAt, Served}
 use Rattle.line_account.specs.Requests.{IsAnswerTo}
-use Rattle.line_account.specs.Answers.{ComesIn, HasOpened, Run}
+use Rattle.line_account.specs.Answers.{ComesIn, HasOpened, Run, TellsDoom}
 use Rattle.line_account.specs.Accounts.{Tells, epoch_in, epochs_of}
 use Rattle.line_account.specs.Courses.{Adds, Course, Stage, lines_in}
 use Rattle.line_account.specs.Order.{FindsEntry, FindsOrStores, HandsOver, NotBelow, Opens, StandsAt, StandsIn, counts_as, epochs_told, printed, version_alone}

@@ -20,7 +20,7 @@ use Rattle.line_account.specs.Lines.{Fits, Offers, Served, gives_up}
 use Rattle.line_account.specs.Requests.{IsAnswerTo}
 use Rattle.line_account.specs.Stopping.{ReadsBehind, is_end, is_halted, is_other_url}
 use Rattle.line_account.specs.Deeds.{Began, BeganAndEnded, BeganOnTab}
-use Rattle.line_account.specs.Answers.{ComesIn, OpenedAs, ReadAs, Reads, Refuses, Run}
+use Rattle.line_account.specs.Answers.{ComesIn, OpenedAs, ReadAs, Reads, Refuses, Run, TellsDoom}
 use Rattle.line_account.specs.Accounts.{IsOffered, Tells, drew_some, drew_version, epochs_of}
 use Rattle.core_model.specs.Knowing.{KnowsAll}
 use Rattle.line_account.specs.Courses.{Adds, one_if}

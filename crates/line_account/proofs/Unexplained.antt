@@ -15,7 +15,7 @@ use Rattle.script_text.specs.declared.request.Request.{Request}
 use Rattle.script_text.specs.declared.request.Request.TheVariants.{Add, Begin, DropTab, Get, More, OpenTab, Purge, Put}
 use Rattle.core_model.specs.Anchors.{opening_counter, opening_epoch}
 use Rattle.line_account.specs.Alone.{alone, home}
-use Rattle.line_account.specs.Answers.{IsWhole, Run}
+use Rattle.line_account.specs.Answers.{IsWhole, Run, TellsDoom}
 use Rattle.line_account.specs.Closing.{BegunIn, HaltedIn, LineIn, TellsBegunIn, Worker}
 use Rattle.line_account.specs.Crews.KnewOf.{own}
 use Rattle.line_account.specs.Deeds.{Began, Begins, PrintsBegunVersion, TellsBegun}

@@ -25,7 +25,7 @@ ghost use Rattle.line_account.specs.Ordering.{AreInOrder, AreNotShort};
 ghost use Rattle.line_account.specs.Scripts.{ServesScript, offering};
 ghost use Rattle.line_account.specs.Idle.{idle_workers};
 ghost use Rattle.line_account.specs.Order.{FindsEntry, PrintsAlone};
-ghost use Rattle.line_account.specs.Answers.{IsCauseOf, IsLong, Refuses, Run, bytes_with};
+ghost use Rattle.line_account.specs.Answers.{IsCauseOf, IsLong, Refuses, Run, TellsDoom, bytes_with};
 ghost use Rattle.core_model.specs.declared.view.Deed.{Deed};
 ghost use Rattle.core_model.specs.declared.view.Item.{Item};
 ghost use Rattle.core_model.specs.declared.view.Sight.{Sight};

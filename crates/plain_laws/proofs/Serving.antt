@@ -21,7 +21,7 @@ use Rattle.plain_model.specs.Serving.{bytes_of, put, serve}
 use Rattle.plain_laws.specs.Kept.{Keeps, Begins}
 use Rattle.plain_laws.specs.Begun.{told_begun, told_stored, begun_by}
 use Rattle.plain_laws.proofs.Keeping.{keeps_refl, keeps_add, keeps_end, keeps_give_up}
-use Rattle.plain_laws.proofs.Looking.{keeps_open, keeps_more, keeps_close, keeps_purge, keeps_get}
+use Rattle.plain_laws.proofs.Looking.{keeps_close, keeps_get, keeps_more, keeps_open, keeps_purge, keeps_wipe}
 use Rattle.plain_laws.proofs.Beginning.{BeginsAs, begins, set_here}
 use Rattle.plain_laws.proofs.Ending.{TellsAtMost, end_tells}
 

@@ -2,7 +2,6 @@
 ghost use Rattle.std.specs.Prelude.{◌≡◌, ◌<◌, IfOk, IfErr};
 ghost use Rattle.store_key.specs.Key.{key_of};
 ghost use Rattle.store_key.specs.Anchor.{anchor_of};
-ghost use Rattle.script_text.specs.declared.answer.Answer.{Answer};
 ghost use Rattle.plain_model.specs.Store.{entry_at, with_tab};
 ghost use Rattle.plain_model.specs.Writing.{step};
 ghost use Rattle.plain_model.specs.Reading.{judge, has_url, open_at, open_tab, told, more, close, doom_at, purge_at, purge, goes_doomed, wiped_by, wipe};
