@@ -98,6 +98,15 @@ wipe http://a/b -> WIPED 1.3d
 get http://a/b -> MISS absent 1.6d
 wipe http://a/b -> NONE absent 1.6d
 
+== wiped_and_wiped_later; 4; 1; new
+save http://a/b =x -> STORED 1
+wipe http://a/b -> WIPED 1.3d
+put http://a/b =y -> STORED 2
+open 0 http://a/b -> OPEN 2
+wipe http://a/b -> LATER 2.3d
+close 0 -> CLOSED
+get http://a/b -> MISS absent 2.6d
+
 == wiped_while_it_is_read; 4; 1; new
 put http://a/b =x -> STORED 1
 open 0 http://a/b -> OPEN 1
@@ -113,7 +122,9 @@ wipe http://a/b -> NONE writing 1.1
 add 0 900 -> ADDED 900
 wipe http://a/b -> LATER 1.2d
 end 0 -> DOOMED 1
-get http://a/b -> MISS absent 1.6d
+put http://a/b =x -> STORED 2
+wipe http://a/b -> WIPED 2.3d
+get http://a/b -> MISS absent 2.6d
 
 == wiped_once_it_was_halted; 8; 1; new
 begin 0 http://a/b #1300:0 -> BEGUN 1
@@ -206,7 +217,7 @@ get http://a/b -> HIT 5 1 78
 #[test]
 fn scripts_are_answered(rt: HostRuntime) -> Result<(), Fail> {
     let count = plays(&rt, SCRIPTS)?;
-    assert_eq!(rt; count, 126);
+    assert_eq!(rt; count, 135);
     Ok(())
 }
 
