@@ -1,5 +1,5 @@
 -- The inner tab has come to an entry and doomed it: what that leaves, and what is known of the word that the tab leaves.
-use Rattle.std.proofs.Common.{Bool, List, None, Option, Some, ap, arith, cond, eq-eqb, false, get_or, get_or-set_same, inl, inr, length-set, max, refl, set, subst, sym, true, ◌+◌, ◌-◌, ◌<◌, ◌==◌, ◌∷◌, ◌≡◌, ◌≢◌, ◌≤◌, ◌⊎◌, ◌×◌, ◌∙◌, [], ℕ}
+use Rattle.std.proofs.Common.{Bool, List, None, Option, Some, ap, arith, cond, eq-eqb, false, get_or, get_or-set_same, inl, inr, length, length-set, max, refl, set, subst, sym, true, ◌+◌, ◌-◌, ◌<◌, ◌==◌, ◌∷◌, ◌≡◌, ◌≢◌, ◌≤◌, ◌⊎◌, ◌∙◌, [], ℕ}
 use Rattle.std.proofs.lemmas.Bool.{false≢true}
 use mathlib.Core.Logic.{dite}
 use native.Mathlib.Decide.{ℕ_discrete}
@@ -96,8 +96,8 @@ module _ {X : Type 0} (g : Ground X) (anchor : ℕ) (e : Epoch) (keyed : View X)
     in_use : is_left_over (n - 1) ≡ false → IsInUse (n - 1)
     in_use other = dite (ℕ_discrete (readers_of (n - 1)) 0)
         (λ none. inr (
-          λ closed. false≢true (sym other ∙ left_over_where (n - 1) (inr (let m = doomed_mode in let s = same_epoch in let c = closed in omega arith)) none),
-          λ halted. false≢true (sym other ∙ left_over_where (n - 1) (inl halted) none),
+          (λ closed. false≢true (sym other ∙ left_over_where (n - 1) (inr (let m = doomed_mode in let s = same_epoch in let c = closed in omega arith)) none)),
+          (λ halted. false≢true (sym other ∙ left_over_where (n - 1) (inl halted) none)),
         ))
         (λ some. inl (omega arith))
 
@@ -145,44 +145,48 @@ module _ {X : Type 0} (g : Ground X) (anchor : ℕ) (e : Epoch) (keyed : View X)
     pub none : freer.loose ≡ []
     pub unheld : has_turn freer.turn ≡ false
 
+  module _ (w : View X) (h : LeftLast g after inner Left.MustFree w) where
+    abbrev up : GivenUp g h.middle inner Left.MustFree w
+    up = h.gives_up
+
+    abbrev b : ℕ
+    b = anchor_of (tab_at h.middle inner)
+
+    abbrev f : Freer X
+    f = freer_of b true up.found (found_as g.setting up.evict.state h.middle (Evict inner b) up.found).chain
+
+    won : up.found ≡ last_find b h.middle.trail
+    won = up.won.0 refl
+
+    epochs : epoch_of up.found ≡ epoch_of h.found
+    epochs = ap epoch_of (won ∙ found_last h.found h.middle h.leave h.over) ∙ same_epoch h.found h.middle h.leave
+
+    takes_last : TakesAll w
+    takes_last = record {
+      freer = f;
+      tabs = ap View.tabs up.evict.leaves ∙ (let z = eq-eqb up.found (last_find b h.middle.trail) won in rw z refl)
+          ∙ ap (λ (xs : List (Tab X)). set (set xs inner Tab.Free) inner (Freeing f)) (tabs_left h.found h.middle h.leave h.over)
+          ∙ ap (λ (xs : List (Tab X)). set xs inner (Freeing f)) (set_again after.tabs inner (Last (anchor_of (tab_at after inner))) Tab.Free);
+      anchor_is = last_there h.found h.middle h.leave h.over ∙ there;
+      version_is = ap version_of epochs ∙ version_stays h.found h.middle h.leave;
+      doomed = eq-eqb (doom_of (epoch_of up.found)) 1 (ap doom_of epochs ∙ stays_doomed h.found h.middle h.leave);
+      freeing = refl;
+      whole = refl;
+      none = refl;
+      unheld = refl;
+    }
+
   pub takes_all : (w : View X) → Leaves g after inner Left.MustFree w → TakesAll w
   takes_all w (inl h) = absurd (not_last h.0)
   takes_all w (inr (off, inl h)) = absurd (must_not_be_done (sym h.done))
-  takes_all w (inr (off, inr h)) = record {
-    freer = f;
-    tabs = ap View.tabs up.evict.leaves ∙ (let z = eq-eqb up.found (last_find b h.middle.trail) won in rw z refl)
-        ∙ ap (λ (xs : List (Tab X)). set (set xs inner Tab.Free) inner (Freeing f)) (tabs_left h.found h.middle h.leave h.over)
-        ∙ ap (λ (xs : List (Tab X)). set xs inner (Freeing f)) (set_again after.tabs inner (Last (anchor_of (tab_at after inner))) Tab.Free);
-    anchor_is = last_there h.found h.middle h.leave h.over ∙ there;
-    version_is = let s = version_stays h.found h.middle h.leave in let q = epochs in omega arith;
-    doomed = eq-eqb (doom_of (epoch_of up.found)) 1 (let s = stays_doomed h.found h.middle h.leave in let q = epochs in omega arith);
-    freeing = refl;
-    whole = refl;
-    none = refl;
-    unheld = refl;
-  }
-    where
-      abbrev up : GivenUp g h.middle inner Left.MustFree w
-      up = h.gives_up
-
-      abbrev b : ℕ
-      b = anchor_of (tab_at h.middle inner)
-
-      abbrev f : Freer X
-      f = freer_of b true up.found (found_as g.setting up.evict.state h.middle (Evict inner b) up.found).chain
-
-      won : up.found ≡ last_find b h.middle.trail
-      won = up.won.0 refl
-
-      epochs : epoch_of up.found ≡ epoch_of h.found
-      epochs = ap epoch_of (won ∙ found_last h.found h.middle h.leave h.over) ∙ same_epoch h.found h.middle h.leave
+  takes_all w (inr (off, inr h)) = takes_last w h
 
   pub freer_there : (w : View X) → (takes : TakesAll w) → tab_at w inner ≡ Freeing takes.freer
   freer_there w takes = ap (λ (xs : List (Tab X)). get_or xs inner Tab.Free) takes.tabs
-      ∙ get_or-set_same (with_tab after inner Tab.Free) inner (Freeing takes.freer) Tab.Free (sized)
+      ∙ get_or-set_same (with_tab after inner Tab.Free) inner (Freeing takes.freer) Tab.Free sized
     where
-      sized : inner < Rattle.std.proofs.Common.length (with_tab after inner Tab.Free)
+      sized : inner < length (with_tab after inner Tab.Free)
       sized = let p = pass_is in let l = length-set after.tabs inner Tab.Free in omega arith
         where
-          pass_is : Rattle.std.proofs.Common.length after.tabs ≡ 9
-          pass_is = ap (λ (v : View X). Rattle.std.proofs.Common.length v.tabs) doom.leaves ∙ doom.may.pass
+          pass_is : length after.tabs ≡ 9
+          pass_is = ap (λ (v : View X). length v.tabs) doom.leaves ∙ doom.may.pass

@@ -2,4 +2,5 @@ mod Growing
 mod Doomed
 mod Answering
 mod Following
-mod Wiping
+mod LastUser
+mod Blanking

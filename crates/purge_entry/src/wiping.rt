@@ -3,7 +3,7 @@ ghost use Rattle.core_model.specs.Tabs.{inner};
 ghost use Rattle.purge_entry.specs.Purging.{MayPurge};
 ghost use Rattle.purge_entry.specs.Wiping.{CallsMade, FaultTells, WipedAndFreed, WipedTells};
 ghost use Rattle.rock_io.specs.Faults.{Rose};
-ghost use Rattle.slice_chain.specs.Reads.{FollowsReading};
+ghost use Rattle.rock_reader.specs.Wanted.{FollowsReader};
 ghost use Rattle.slice_chain.specs.Wiping.{MayWipeFirst};
 ghost use Rattle.slice_chain.specs.Written.{StoppedAt, calls_to_write};
 ghost use Rattle.std.specs.Prelude.{IfErr, IfOk, IsErrOf, IsTrue, OnErr, OnOk, true, false, ◌≡◌, ◌≢◌};
@@ -54,7 +54,7 @@ pub fn purge_durable<C: Cell, O: Origin, St: Station<C = C>>(
     ensures ok { IfOk result (WipedTells (basis C.tells C.state O.offers store.now) url.now (view pass.old) (view pass.new)) }
     ensures err { IfErr result (FaultTells (basis C.tells C.state O.offers store.now) url.now (view pass.old) (view pass.new)) }
     ensures free { (view pass.new).tabs ≡ (view pass.old).tabs }
-    ensures others { FollowsReading C.tells C.state O.offers store.now inner pass.old pass.new }
+    ensures others { FollowsReader C.tells C.state O.offers store.now inner pass.old pass.new }
     ensures quiet { IfErr result (λ fault. fault ≢ WipeFault.Fault → DoomsNothing (view pass.old) (view pass.new)) }
     ensures called { IsTrue St.counts → CallsMade result (St.calls station.old) (St.calls station.new) }
     ensures unfailed { (IsErrOf result WipeFault.Fault → ⊥) → St.faults station.new ≡ St.faults station.old }
@@ -83,7 +83,7 @@ fn wipe_and_free<C: Cell, O: Origin, St: Station<C = C>>(
     requires { MayWipeFirst C.tells C.state O.offers store.now pass.old }
     ensures ok { OnOk result (WipedAndFreed (basis C.tells C.state O.offers store.now) true (view pass.old) (view pass.new)) }
     ensures err { OnErr result (WipedAndFreed (basis C.tells C.state O.offers store.now) false (view pass.old) (view pass.new)) }
-    ensures others { FollowsReading C.tells C.state O.offers store.now inner pass.old pass.new }
+    ensures others { FollowsReader C.tells C.state O.offers store.now inner pass.old pass.new }
     ensures quiet { Quiet (view pass.old) (view pass.new) }
     ensures called { IsTrue St.counts → OnOk result (St.calls station.new ≡ calls_to_write true (St.calls station.old)) }
     ensures stopped { IsTrue St.counts → OnErr result (StoppedAt true (St.calls station.old) (St.calls station.new)) }

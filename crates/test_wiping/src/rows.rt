@@ -73,8 +73,8 @@ do 1 end 0
 told NONE writing 1 Taken
 told LATER 1 Appending doomed
 told free 4
-told files 8
-told in 2 ENTRY 0 1 3 901 http://a/b
+told files 4
+told in 1 ENTRY 0 1 2 901 http://a/b
 
 slots 4
 do 1 save http://a/b =x
@@ -129,9 +129,9 @@ do 1 save http://a/b #1300:0
 do 2 purge http://a/b
 do 1 save http://a/c #901:0
 told WIPED 1 Closed doomed
-told free 5
+told free 6
 told files 1
-told in 1 ENTRY 0 2 3 901 http://a/c
+told in 1 ENTRY 0 2 2 901 http://a/c
 
 slots 4
 file empty
