@@ -14,9 +14,6 @@ use Rattle.store_rule.specs.declared.store.Store.{Store}
 use Rattle.store_rule.specs.Ground.{Offers}
 use Rattle.store_rule.specs.Passes.{view}
 use Rattle.slice_chain.specs.Freeing.{FollowsTab}
-use Rattle.slice_chain.specs.Reads.{FollowsReading}
-use Rattle.tab_states.specs.Desks.{buffer_at, draft_at}
-use Rattle.rock_reader.proofs.Desks.{buffer_other, draft_lent}
 use Rattle.rock_reader.specs.Wanted.{FollowsReader, SameDesk}
 use Rattle.rock_writer.specs.Passes.{FollowsWriting}
 use Rattle.store_serve.specs.Tabs.{IsReady, Leaves}
@@ -117,15 +114,12 @@ module _ {C O : Type 0} (tells : Bool) (state : C → CellState) (offers : O →
   }
 
   -- so does a call on the inner tab that works in its buffer
-  pub leaves_inner_reading : (p q : Pass C) → FollowsReading tells state offers s inner p q → InnerIsFree (view q) → KnowsAll (view p) (view q) → Leaves tells state offers s t p q
+  pub leaves_inner_reading : (p q : Pass C) → FollowsReader tells state offers s inner p q → InnerIsFree (view q) → KnowsAll (view p) (view q) → Leaves tells state offers s t p q
   leaves_inner_reading p q f free keeps = record {
     own = f.own;
     inner_free = free;
     others = λ j ne far. f.others j far far;
-    desks = λ j ne far. (
-      ap (λ (ds : List Desk). buffer_at ds j) f.desks ∙ buffer_other p.desks inner j f.bytes far,
-      ap (λ (ds : List Desk). draft_at ds j) f.desks ∙ draft_lent p.desks inner j f.bytes,
-    );
+    desks = λ j ne far. f.desks j far far;
     keeps = keeps;
     places = f.places;
     cells = f.cells;
