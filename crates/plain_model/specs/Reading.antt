@@ -1,5 +1,5 @@
 -- Reading and purging an entry.
-use Rattle.std.specs.Prelude.{ℕ, List, length, drop, slice_set, if◌then◌else◌, Bool, true, false, Option, Some, None, not}
+use Rattle.std.specs.Prelude.{ℕ, List, length, drop, slice_set, Bool, true, false, Option, Some, None, not}
 use Rattle.std.specs.Str.{bytes_eq}
 use Rattle.script_text.specs.declared.answer.Answer.{Answer}
 use Rattle.script_text.specs.declared.answer.Answer.TheVariants as answer

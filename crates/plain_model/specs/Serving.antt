@@ -1,5 +1,5 @@
 -- What lines and scripts are answered.
-use Rattle.std.specs.Prelude.{ℕ, ◌+◌, ◌%◌, ◌==◌, ◌&&◌, List, [], ◌∷◌, map, filter, replicate, nat_lt, if◌then◌else◌, Bool, true, false, Option, Some, None}
+use Rattle.std.specs.Prelude.{ℕ, ◌+◌, ◌%◌, ◌==◌, ◌&&◌, List, [], ◌∷◌, map, filter, replicate, nat_lt, if◌then◌else◌, Bool, true, false}
 use Rattle.std.specs.List.{range_with_len, list_any}
 use Rattle.script_text.specs.declared.body.Body.{Body}
 use Rattle.script_text.specs.declared.body.Body.TheVariants.{Text, Made}
