@@ -34,7 +34,7 @@ pub record BenchDoes (tells : Tells) (name : List ℕ) (seed workers count : ℕ
   -- With one worker whose station met no fault it prints the one line of a plain store that was never written, which the seed and the
   -- rounds alone determine.
   pub plain : workers ≡ 1 → IsTrue tells.volume → IsTrue tells.sink → status ≡ Done → NoWorkerFailed before.counts after.counts
-      → after.taken ≡ before.taken ++ plain_line seed count
+      → after.taken ≡ before.taken ++ plain_line seed workers count
   -- Its stations are that of the header area of its file, and behind it those of its run: each that was made was ended.
   pub stations : BenchEnded before.counts after.counts
   -- At any status but that of a fault of the disk the volume's count is as it was, and the stations of the header area and of the rebuild
