@@ -1,10 +1,9 @@
 -- Summaries of answers.
-use Rattle.std.proofs.Common.{◌≡◌, ◌∙◌, ℕ, zero, suc, ◌+◌, ◌<◌, ◌≤◌, List, [], ◌∷◌, ◌++◌, length, map, sum_by, refl, sym, ap, arith, Bool, cond}
-use Rattle.std.specs.Prelude.{flat_map}
+use Rattle.std.proofs.Common.{◌≡◌, ◌∙◌, ℕ, suc, ◌+◌, ◌<◌, List, [], ◌∷◌, ◌++◌, length, map, sum_by, refl, sym, ap, subst, arith, cond}
+use Rattle.std.specs.Prelude.{flat_map, slice_index_or}
 use Rattle.std.specs.List.{range_with_len}
 use Rattle.std.proofs.Common.{length-append}
 use Rattle.std.proofs.lemmas.List.{length-map}
-use Rattle.std.proofs.lemmas.List.Concat.{flat_map-cons}
 use Rattle.std.proofs.lemmas.List.Sums.{sum_by-append, sum_by-cons}
 use Rattle.script_text.specs.declared.answer.Answer.{Answer}
 use Rattle.script_text.specs.declared.answer.Answer.TheVariants as answer
@@ -14,7 +13,7 @@ use Rattle.workload.specs.declared.kind.Kind.TheVariants.{Hit, Miss, Stored, Pur
 use Rattle.workload.specs.declared.summary.Summary.{Summary}
 use Rattle.workload.specs.Kinds.{hit_bytes, is_of, is_same, kind_of}
 use Rattle.workload.specs.Counts.{count_of, summary_of}
-use Rattle.bench_laws.specs.Plain.{AreRenamed, IsRenamed, answers_to_one, given_by, plain_answers}
+use Rattle.bench_laws.specs.Plain.{AreRenamed, IsRenamed, all_of, answers_to_one, plain_answers}
 use Rattle.bench_laws.specs.Summaries.{both}
 
 -- another version is of the same kind, and gives as many bytes
@@ -45,7 +44,8 @@ bytes_kept rename (answer.Opened version) = refl
 bytes_kept rename _ = refl
 
 -- a sum over answers that each count as another does
-sum_kept : (f : Answer → ℕ) (g : Answer → Answer) → ((a : Answer) → f (g a) ≡ f a) → (answers : List Answer) → sum_by f (map g answers) ≡ sum_by f answers
+sum_kept : (f : Answer → ℕ) (g : Answer → Answer) → ((a : Answer) → f (g a) ≡ f a) → (answers : List Answer)
+    → sum_by f (map g answers) ≡ sum_by f answers
 sum_kept f g same [] = refl
 sum_kept f g same (a ∷ answers) =
     omega (arith, sum_by-cons f (g a) (map g answers), sum_by-cons f a answers, same a, sum_kept f g same answers)
@@ -92,20 +92,35 @@ added these others =
     (count_append Purged these others) (count_append NoEntry these others) (count_append Other these others)
     (sum_by-append hit_bytes these others)
 
--- workers that are answered alike but for versions have one summary
-rows_alike : (given plain : ℕ → List Answer) (i n : ℕ) → ((w : ℕ) → i ≤ w → w < i + n → IsRenamed (given w) (plain w))
-    → summary_of (flat_map given (range_with_len i n)) ≡ summary_of (flat_map plain (range_with_len i n))
-rows_alike given plain i zero each = refl
-rows_alike given plain i (suc n) each =
-    let here = each i (omega arith) (omega arith) in
-    let one : summary_of (given i) ≡ summary_of (plain i) = ap summary_of here.is ∙ renamed_alike here.rename (plain i) in
-    let rest = rows_alike given plain (i + 1) n (λ w from to. each w (omega arith) (omega arith)) in
-    ap summary_of (flat_map-cons given i (range_with_len (i + 1) n)) ∙ added (given i) (flat_map given (range_with_len (i + 1) n))
-    ∙ ap (λ (s : Summary). both s (summary_of (flat_map given (range_with_len (i + 1) n)))) one
-    ∙ ap (both (summary_of (plain i))) rest
-    ∙ sym (added (plain i) (flat_map plain (range_with_len (i + 1) n)))
-    ∙ sym (ap summary_of (flat_map-cons plain i (range_with_len (i + 1) n)))
+next_place : (i place : ℕ) → i + suc place ≡ i + 1 + place
+next_place i place = omega arith
 
-pub plainly : (seed workers count : ℕ) (given : ℕ → List Answer) → AreRenamed seed workers count given
-    → summary_of (given_by workers given) ≡ summary_of (plain_answers seed workers count)
-plainly seed workers count given each = rows_alike given (answers_to_one seed workers count) 1 workers (λ w from to. each w from (omega arith))
+from_one : (place : ℕ) → place + 1 ≡ 1 + place
+from_one place = omega arith
+
+-- workers that are answered as by plain stores, but for versions, have one summary
+rows_alike : (plain : ℕ → List Answer) (i : ℕ) (rows : List (List Answer))
+    → ((place : ℕ) → place < length rows → IsRenamed (slice_index_or rows place []) (plain (i + place)))
+    → summary_of (all_of rows) ≡ summary_of (flat_map plain (range_with_len i (length rows)))
+rows_alike plain i [] each = refl
+rows_alike plain i (row ∷ rows) each =
+    let first : IsRenamed row (plain (i + 0)) = each 0 (omega arith) in
+    let here : i + 0 ≡ i = omega arith in
+    let one : summary_of row ≡ summary_of (plain i) =
+    ap summary_of first.is ∙ renamed_alike first.rename (plain (i + 0)) ∙ ap (λ (n : ℕ). summary_of (plain n)) here in
+    let rest = rows_alike plain (i + 1) rows
+    (λ place lt. subst (λ (n : ℕ). IsRenamed (slice_index_or rows place []) (plain n)) (next_place i place)
+    (each (suc place) (omega arith))) in
+    added row (all_of rows)
+    ∙ ap (λ (s : Summary). both s (summary_of (all_of rows))) one
+    ∙ ap (both (summary_of (plain i))) rest
+    ∙ sym (added (plain i) (flat_map plain (range_with_len (i + 1) (length rows))))
+
+pub plainly : (seed workers count : ℕ) (rows : List (List Answer)) → AreRenamed seed workers count rows
+    → summary_of (all_of rows) ≡ summary_of (plain_answers seed workers count)
+plainly seed workers count rows h =
+    let many = h.many in
+    rows_alike (answers_to_one seed workers count) 1 rows
+    (λ place lt. subst (λ (n : ℕ). IsRenamed (slice_index_or rows place []) (answers_to_one seed workers count n)) (from_one place)
+    (h.each place (omega (arith, many, lt))))
+    ∙ ap (λ (n : ℕ). summary_of (flat_map (answers_to_one seed workers count) (range_with_len 1 n))) many

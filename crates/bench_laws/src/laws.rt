@@ -8,7 +8,7 @@ ghost use Rattle.plain_laws.specs.Private.{TabsApart, answers_to, is_private, pr
 ghost use Rattle.plain_laws.specs.Renaming.{renamed};
 ghost use Rattle.workload.specs.Counts.{summary_of};
 ghost use Rattle.workload.specs.Script.{bench_lines};
-ghost use Rattle.bench_laws.specs.Plain.{AreRenamed, IsRenamed, answers_to_one, given_by, plain_answers};
+ghost use Rattle.bench_laws.specs.Plain.{AreRenamed, IsRenamed, all_of, answers_to_one, plain_answers};
 ghost use Rattle.bench_laws.specs.Setting.{setting_for, store_for};
 ghost use Rattle.bench_laws.specs.Summaries.{both};
 
@@ -23,11 +23,13 @@ pub fn bench_lines_are_private()
         → private_lines (setting_for workers) (bench_lines seed workers count) worker ≡ lines_for worker (bench_lines seed workers count) }
     ensures told { (seed workers count worker : ℕ) (given : List Answer) → workers ≤ 32
         → length given ≡ length (lines_for worker (bench_lines seed workers count))
-        → answers_to (is_private (setting_for workers) (bench_lines seed workers count) worker) (lines_for worker (bench_lines seed workers count)) given
+        → answers_to (is_private (setting_for workers) (bench_lines seed workers count) worker)
+        (lines_for worker (bench_lines seed workers count)) given
         ≡ given }
     ensures alone { (seed workers count worker : ℕ) (rename : ℕ → ℕ) (given : List Answer) → workers ≤ 32
         → length given ≡ length (lines_for worker (bench_lines seed workers count))
-        → answers_to (is_private (setting_for workers) (bench_lines seed workers count) worker) (lines_for worker (bench_lines seed workers count)) given
+        → answers_to (is_private (setting_for workers) (bench_lines seed workers count) worker)
+        (lines_for worker (bench_lines seed workers count)) given
         ≡ map (renamed rename) (answers (setting_for workers) (bench_lines seed workers count)
         (private_lines (setting_for workers) (bench_lines seed workers count) worker) (store_for workers))
         → IsRenamed given (answers_to_one seed workers count worker) }
@@ -51,8 +53,8 @@ pub fn bench_lines_fit()
 /// answer its lines by themselves, the summary is that of the plain answers.
 pub fn summaries_tell_no_versions()
     ensures one { (rename : ℕ → ℕ) (answers : List Answer) → summary_of (map (renamed rename) answers) ≡ summary_of answers }
-    ensures plain { (seed workers count : ℕ) (given : ℕ → List Answer) → AreRenamed seed workers count given
-        → summary_of (given_by workers given) ≡ summary_of (plain_answers seed workers count) }
+    ensures plain { (seed workers count : ℕ) (rows : List (List Answer)) → AreRenamed seed workers count rows
+        → summary_of (all_of rows) ≡ summary_of (plain_answers seed workers count) }
 {}
 
 /// The summary of answers in a row is that of both parts together.
