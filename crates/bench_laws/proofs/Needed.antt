@@ -1,5 +1,6 @@
 -- The lines of a benchmark fit.
-use Rattle.std.proofs.Common.{◌≡◌, ℕ, zero, suc, ◌+◌, ◌*◌, ◌≤◌, List, [], ◌∷◌, length, map, get_or, sum_by, refl, ap, arith, Bool, true, false}
+use Rattle.std.proofs.Common.{◌≡◌, ℕ, zero, suc, ◌+◌, ◌*◌, ◌≤◌, List, [], ◌∷◌, length, map, get_or, sum_by, refl, ap, arith}
+use Rattle.std.proofs.Common.{Bool, true, false}
 use Rattle.std.specs.Prelude.{All, Contains, ◌==◌, min, max, nat_lt, if◌then◌else◌}
 use Rattle.std.specs.List.{range_with_len}
 use Rattle.std.proofs.Math.Nat.{mul-le-mul}
@@ -39,9 +40,11 @@ need_small : (workers : ℕ) (url body : List ℕ) → length url ≤ 17 → len
 need_small workers url body short small =
     let slots : published 472 (32 + length url + length body) + 1 ≤ 3 = omega arith in
     let most : min (limit (setting_for workers)) (published 472 (32 + length url + length body) + 1) ≤ 3 = omega arith in
-    either_most (nat_lt 472 (meta_size url)) 0 (min (limit (setting_for workers)) (published 472 (32 + length url + length body) + 1)) 3 (omega arith) most
+    either_most (nat_lt 472 (meta_size url)) 0 (min (limit (setting_for workers)) (published 472 (32 + length url + length body) + 1)) 3
+    (omega arith) most
 
-need_there : (workers anchor : ℕ) (url : List ℕ) (body : Body) → length url ≤ 17 → body_size body ≤ 1300 → need_if_at (setting_for workers) anchor url (bytes_of body) ≤ 3
+need_there : (workers anchor : ℕ) (url : List ℕ) (body : Body) → length url ≤ 17 → body_size body ≤ 1300
+    → need_if_at (setting_for workers) anchor url (bytes_of body) ≤ 3
 need_there workers anchor url body short small =
     let long = as_long body in
     either_most (anchor_of (key_of url) (16 * workers) == anchor) (need (setting_for workers) url (bytes_of body)) 0 3
@@ -53,12 +56,14 @@ need_of workers anchor (Save url body) is = need_there workers anchor url body (
 need_of workers anchor (Begin tab url body) is = need_there workers anchor url body (is.url url refl) is.body
 need_of workers anchor _ is = omega arith
 
-most_of : (workers anchor : ℕ) (lines : List Line) → All (λ line. IsSmall line.request) lines → most_needed (setting_for workers) anchor lines ≤ 3
+most_of : (workers anchor : ℕ) (lines : List Line) → All (λ line. IsSmall line.request) lines
+    → most_needed (setting_for workers) anchor lines ≤ 3
 most_of workers anchor [] all = omega arith
 most_of workers anchor (line ∷ lines) all =
     let one = need_of workers anchor line.request (All-head (λ (l : Line). IsSmall l.request) line lines all) in
     let rest = most_of workers anchor lines (All-tail (λ (l : Line). IsSmall l.request) line lines all) in
-    let most : max (need_at (setting_for workers) anchor line.request) (most_needed (setting_for workers) anchor lines) ≤ 3 = omega (arith, one, rest) in
+    let most : max (need_at (setting_for workers) anchor line.request) (most_needed (setting_for workers) anchor lines) ≤ 3 =
+    omega (arith, one, rest) in
     most
 
 -- a store that was never written holds nothing
@@ -78,13 +83,16 @@ module _ (seed workers count : ℕ) where
     pub three_held : (anchor : ℕ) → most_held (setting_for workers) lines (store_for workers) anchor ≤ 3
     three_held anchor =
         let none = none_held workers anchor in
-        let most = most_of workers anchor lines (All-weaker (Contains lines) (λ line. IsSmall line.request) small lines (All-contains_itself lines)) in
-        let both : max (held 472 (place_at (store_for workers) anchor)) (most_needed (setting_for workers) anchor lines) ≤ 3 = omega (arith, none, most) in
+        let most = most_of workers anchor lines
+        (All-weaker (Contains lines) (λ line. IsSmall line.request) small lines (All-contains_itself lines)) in
+        let both : max (held 472 (place_at (store_for workers) anchor)) (most_needed (setting_for workers) anchor lines) ≤ 3 =
+        omega (arith, none, most) in
         both
 
     sum_small : sum_by (most_held (setting_for workers) lines (store_for workers)) (range_with_len 0 (16 * workers)) ≤ 64 * workers
     sum_small =
-        let all = All-from_get_or (λ anchor. most_held (setting_for workers) lines (store_for workers) anchor ≤ 3) (range_with_len 0 (16 * workers)) 0 (λ i lt. three_held _) in
+        let all = All-from_get_or (λ anchor. most_held (setting_for workers) lines (store_for workers) anchor ≤ 3)
+        (range_with_len 0 (16 * workers)) 0 (λ i lt. three_held _) in
         let sum = sum_by-le (most_held (setting_for workers) lines (store_for workers)) 3 (range_with_len 0 (16 * workers)) all in
         let many = length-range_with_len 0 (16 * workers) in
         omega (arith, sum, many)

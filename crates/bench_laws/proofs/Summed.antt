@@ -44,7 +44,8 @@ bytes_kept rename (answer.Opened version) = refl
 bytes_kept rename _ = refl
 
 -- a sum over answers that each count as another does
-sum_kept : (f : Answer → ℕ) (g : Answer → Answer) → ((a : Answer) → f (g a) ≡ f a) → (answers : List Answer) → sum_by f (map g answers) ≡ sum_by f answers
+sum_kept : (f : Answer → ℕ) (g : Answer → Answer) → ((a : Answer) → f (g a) ≡ f a) → (answers : List Answer)
+    → sum_by f (map g answers) ≡ sum_by f answers
 sum_kept f g same [] = refl
 sum_kept f g same (a ∷ answers) =
     omega (arith, sum_by-cons f (g a) (map g answers), sum_by-cons f a answers, same a, sum_kept f g same answers)
@@ -98,15 +99,18 @@ from_one : (place : ℕ) → place + 1 ≡ 1 + place
 from_one place = omega arith
 
 -- workers that are answered as by plain stores, but for versions, have one summary
-rows_alike : (plain : ℕ → List Answer) (i : ℕ) (rows : List (List Answer)) → ((place : ℕ) → place < length rows → IsRenamed (slice_index_or rows place []) (plain (i + place)))
+rows_alike : (plain : ℕ → List Answer) (i : ℕ) (rows : List (List Answer))
+    → ((place : ℕ) → place < length rows → IsRenamed (slice_index_or rows place []) (plain (i + place)))
     → summary_of (all_of rows) ≡ summary_of (flat_map plain (range_with_len i (length rows)))
 rows_alike plain i [] each = refl
 rows_alike plain i (row ∷ rows) each =
     let first : IsRenamed row (plain (i + 0)) = each 0 (omega arith) in
     let here : i + 0 ≡ i = omega arith in
-    let one : summary_of row ≡ summary_of (plain i) = ap summary_of first.is ∙ renamed_alike first.rename (plain (i + 0)) ∙ ap (λ (n : ℕ). summary_of (plain n)) here in
+    let one : summary_of row ≡ summary_of (plain i) =
+    ap summary_of first.is ∙ renamed_alike first.rename (plain (i + 0)) ∙ ap (λ (n : ℕ). summary_of (plain n)) here in
     let rest = rows_alike plain (i + 1) rows
-    (λ place lt. subst (λ (n : ℕ). IsRenamed (slice_index_or rows place []) (plain n)) (next_place i place) (each (suc place) (omega arith))) in
+    (λ place lt. subst (λ (n : ℕ). IsRenamed (slice_index_or rows place []) (plain n)) (next_place i place)
+    (each (suc place) (omega arith))) in
     added row (all_of rows)
     ∙ ap (λ (s : Summary). both s (summary_of (all_of rows))) one
     ∙ ap (both (summary_of (plain i))) rest
@@ -117,5 +121,6 @@ pub plainly : (seed workers count : ℕ) (rows : List (List Answer)) → AreRena
 plainly seed workers count rows h =
     let many = h.many in
     rows_alike (answers_to_one seed workers count) 1 rows
-    (λ place lt. subst (λ (n : ℕ). IsRenamed (slice_index_or rows place []) (answers_to_one seed workers count n)) (from_one place) (h.each place (omega (arith, many, lt))))
+    (λ place lt. subst (λ (n : ℕ). IsRenamed (slice_index_or rows place []) (answers_to_one seed workers count n)) (from_one place)
+    (h.each place (omega (arith, many, lt))))
     ∙ ap (λ (n : ℕ). summary_of (flat_map (answers_to_one seed workers count) (range_with_len 1 n))) many

@@ -23,11 +23,13 @@ pub fn bench_lines_are_private()
         → private_lines (setting_for workers) (bench_lines seed workers count) worker ≡ lines_for worker (bench_lines seed workers count) }
     ensures told { (seed workers count worker : ℕ) (given : List Answer) → workers ≤ 32
         → length given ≡ length (lines_for worker (bench_lines seed workers count))
-        → answers_to (is_private (setting_for workers) (bench_lines seed workers count) worker) (lines_for worker (bench_lines seed workers count)) given
+        → answers_to (is_private (setting_for workers) (bench_lines seed workers count) worker)
+        (lines_for worker (bench_lines seed workers count)) given
         ≡ given }
     ensures alone { (seed workers count worker : ℕ) (rename : ℕ → ℕ) (given : List Answer) → workers ≤ 32
         → length given ≡ length (lines_for worker (bench_lines seed workers count))
-        → answers_to (is_private (setting_for workers) (bench_lines seed workers count) worker) (lines_for worker (bench_lines seed workers count)) given
+        → answers_to (is_private (setting_for workers) (bench_lines seed workers count) worker)
+        (lines_for worker (bench_lines seed workers count)) given
         ≡ map (renamed rename) (answers (setting_for workers) (bench_lines seed workers count)
         (private_lines (setting_for workers) (bench_lines seed workers count) worker) (store_for workers))
         → IsRenamed given (answers_to_one seed workers count worker) }
