@@ -206,6 +206,11 @@ impl Files for Made {
             is_shared: path.contains("shared"),
             is_free: path.contains("free"),
             is_signalled: path.contains("signalled"),
+            length: if path.contains("eight") {
+                EIGHT
+            } else {
+                LENGTH
+            },
             end: if path.contains("ended") {
                 18_500
             } else {
