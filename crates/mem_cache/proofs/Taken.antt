@@ -1,9 +1,9 @@
 -- Pages that a seat takes, and gives back again.
-use Rattle.std.proofs.Common.{◌≡◌, ⊎_elim, ℕ, ◌+◌, ◌<◌, suc, Bool, true, false, not, List, [], ◌∷◌, ◌++◌, length, map, reverse, refl, sym, ap, ◌∙◌, subst, arith, eq-eqb, ne_eqb, Contains}
-use Rattle.std.specs.Prelude.{All, AllPairs, Some, filter, ◌==◌, ◌≢◌, slice_index_or}
+use Rattle.std.proofs.Common.{◌≡◌, ⊎_elim, ℕ, ◌<◌, suc, true, not, List, [], ◌∷◌, ◌++◌, map, reverse, refl, sym, ap, ◌∙◌, subst, arith, eq-eqb, ne_eqb, Contains}
+use Rattle.std.specs.Prelude.{All, Some, ◌==◌, ◌≢◌}
 use Rattle.std.proofs.lemmas.Bool.{cond-false, cond-true}
 use Rattle.std.proofs.lemmas.List.{map-append, reverse-append}
-use Rattle.std.proofs.lemmas.List.Elements.{All-append, All-cons, All-head, All-tail, All-pop, All-push, All-contains, Contains-append_cases, Contains-append_left, Contains-append_right, Contains-get_or, Contains-push}
+use Rattle.std.proofs.lemmas.List.Elements.{All-cons, All-head, All-tail, All-pop, All-push, All-contains, Contains-append_cases, Contains-append_left, Contains-append_right, Contains-get_or, Contains-push}
 use Rattle.std.proofs.lemmas.List.Kept.{AllPairs-cons}
 use Rattle.page_pool.specs.declared.pool.PoolSize.{PoolSize}
 use Rattle.page_pool.specs.declared.view.View.{View}

@@ -1,16 +1,16 @@
 -- Pages of zeros as the slots of a store.
-use Rattle.std.proofs.Common.{◌≡◌, ⊎_elim, ℕ, ◌+◌, ◌<◌, zero, suc, Bool, true, false, List, [], ◌∷◌, ◌++◌, length, map, replicate, refl, sym, ap, ◌∙◌, subst, arith}
-use Rattle.std.specs.Prelude.{All, IsTrue, drop, slice_index, take}
+use Rattle.std.proofs.Common.{◌≡◌, ⊎_elim, ℕ, zero, suc, Bool, true, false, List, [], ◌∷◌, ◌++◌, length, map, replicate, refl, sym, ap, ◌∙◌, subst, arith}
+use Rattle.std.specs.Prelude.{All, drop, slice_index, take}
 use mathlib.Core.Option.{some}
 use lib.ListN.{get_elem?}
-use Rattle.std.proofs.lemmas.List.{length-map, length-replicate}
+use Rattle.std.proofs.lemmas.List.{length-replicate}
 use Rattle.std.proofs.lemmas.List.Elements.{All-cons, All-drop, All-head, All-nil, All-push, All-replicate, All-tail, All-take}
 use Rattle.page_pool.proofs.Lists.{at_end, at_length}
 use Rattle.rock_disk.specs.Cell.{shape}
-use Rattle.rebuild_model.specs.Image.{IsSaneAt, image_at}
+use Rattle.rebuild_model.specs.Image.{image_at}
 use Rattle.slot_cell.specs.Header.{header_of}
 use Rattle.store_rule.specs.Rebuilding.{HoldNothing}
-use Rattle.store_rule.specs.Setting.{IsRow, IsSettled, blank_in, shown}
+use Rattle.store_rule.specs.Setting.{IsSettled, blank_in, shown}
 use Rattle.mem_cache.specs.declared.cell.PageCell.{PageCell}
 use Rattle.mem_cache.specs.Cell.{cell_state}
 use Rattle.mem_cache.specs.Pages.{AreNew}

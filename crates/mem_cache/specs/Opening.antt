@@ -1,5 +1,5 @@
 -- A store over pages, as it is made, and why it is not.
-use Rattle.std.specs.Prelude.{All, Bool, List, [], length, replicate, vec_len, ◌<◌, ◌≡◌, ℕ}
+use Rattle.std.specs.Prelude.{All, Bool, [], length, replicate, vec_len, ◌<◌, ◌≡◌, ℕ}
 use Rattle.std.specs.Global.{Vec}
 use Rattle.page_pool.specs.declared.pool.PoolSize.{PoolSize}
 use Rattle.page_pool.specs.declared.view.View.{View}

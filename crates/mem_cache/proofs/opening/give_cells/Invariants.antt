@@ -1,4 +1,3 @@
-use Rattle.std.specs.Prelude.{vec_len, ◌≡◌}
 use Rattle.page_pool.specs.declared.view.View.{View}
 use Rattle.page_pool.specs.Seats.{IsSeatOf, key, view}
 use Rattle.mem_cache.specs.Pages.{AreTaken}

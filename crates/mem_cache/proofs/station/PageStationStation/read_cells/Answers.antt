@@ -1,6 +1,6 @@
 use Rattle.std.proofs.Common.{length, ap, arith, ◌∙◌}
 use Rattle.mem_cache.specs.Cell.{cell_state}
-use Rattle.rock_disk.proofs.Together.{all_filled, front_more, width_more, width_room}
+use Rattle.rock_disk.proofs.Together.{front_more, width_more, width_room}
 use Rattle.mem_cache.proofs.station.PageStationStation.read_cells.Goals as goal
 
 pub put-end-requires : goal.put-end-requires
