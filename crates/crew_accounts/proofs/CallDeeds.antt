@@ -9,11 +9,10 @@ use Rattle.core_model.specs.declared.view.Deed.{Deed}
 use Rattle.core_model.specs.declared.view.Sight.{Sight}
 use Rattle.core_model.specs.declared.view.View.{View}
 use Rattle.line_account.specs.Lines.{Served}
-use Rattle.line_account.specs.Deeds.{Begins, ComesTo, Evicts, Finishes, Grows, Halts, IsDeedOf, PrintsBegunVersion, Purges}
+use Rattle.line_account.specs.Deeds.{Begins, ComesTo, Evicts, Finishes, Grows, Halts, IsDeedOf, Purges}
 use Rattle.line_account.specs.Answers.{HasPart, Run}
 use Rattle.line_account.specs.Accounts.{Shows, Tells}
 use Rattle.line_account.specs.Courses.{Adds}
-use Rattle.line_account.proofs.Versions.{told_began}
 use Rattle.store_rule.specs.Ground.{Ground, fits}
 use Rattle.rock_writer.specs.declared.fault.Ended.{Ended}
 use Rattle.rock_writer.specs.declared.fault.Ended.TheVariants.{Doomed, Stored}
@@ -100,7 +99,7 @@ module _ {X : Type 0} (r : Run X) (v : View X) (earlier : List Served) (s : Serv
 
 -- A line adds what its call drew and did, with what it tells.
 module _ {X : Type 0} (r : Run X) (v w : View X) (earlier : List Served) (s : Served) where
-  pub adds_drawing : ((a x : ℕ) → PrintsBegunVersion r.setting.anchors s a x → version_in (seen_at a v.seen) < x) → (P : Deed → Type 0) → Acted s.drew P v w → ((d : Deed) → P d → IsDeedOf r w d earlier s)
+  pub adds_drawing : ((a b x : ℕ) → Begins r.setting.anchors s a x → version_in (seen_at b v.seen) < x) → (P : Deed → Type 0) → Acted s.drew P v w → ((d : Deed) → P d → IsDeedOf r w d earlier s)
       → ShowsInTurn r.setting.anchors v w earlier s → Tells r w earlier s
       → (IsTrue r.tells → (e : Epoch) (bytes : List ℕ) → s.answer ≡ answer.Part e bytes → HasPart r v w earlier s (epoch_number e)) → Adds r v earlier s w
   adds_drawing above P acted so shows tells parts = record {
@@ -119,5 +118,5 @@ module _ {X : Type 0} (r : Run X) (v w : View X) (earlier : List Served) (s : Se
   pub adds_by : s.drew ≡ None → (P : Deed → Type 0) → Acted s.drew P v w → ((d : Deed) → P d → IsDeedOf r w d earlier s) → ShowsInTurn r.setting.anchors v w earlier s → Tells r w earlier s
       → (IsTrue r.tells → (e : Epoch) (bytes : List ℕ) → s.answer ≡ answer.Part e bytes → HasPart r v w earlier s (epoch_number e)) → Adds r v earlier s w
   adds_by none P acted so shows tells parts = adds_drawing
-      (λ a x h. let began = tells.began x (told_began s.asked.request s.answer x h.told) in let z : None ≡ Some began.version = sym none ∙ began.drew in absurd (let q : ⊥ = cc in q))
+      (λ a b x h. let z : None ≡ Some x = sym none ∙ h.drew in absurd (let q : ⊥ = cc in q))
       P acted so shows tells parts

@@ -32,7 +32,6 @@ use Rattle.crew_accounts.specs.Runs.{Past, run_of}
 use Rattle.crew_accounts.specs.Tracks.{Tracks}
 use Rattle.crew_accounts.proofs.Beginning.{busy_met}
 use Rattle.crew_accounts.proofs.CallDeeds.{adds_drawing, adds_by}
-use Rattle.line_account.proofs.Versions.{told_began}
 use Rattle.crew_accounts.proofs.Offering.{IsOffering, offering}
 use Rattle.crew_accounts.proofs.Readers.{readers_few}
 use Rattle.crew_accounts.proofs.Shown.{anchor_at, shows_none, shows_two}
@@ -84,7 +83,7 @@ module _ {C O : Type 0} (tells : Bool) (state : C → CellState) (offers : O →
           let few = readers_few tells state offers s told past served p tracks (anchor_for g url) in
           record {
             drew = drew;
-            adds = adds_drawing r (view p) (view q) served l (λ b x k. absurd (is.not_busy looked found x (told_began line.request (answer.Busy looked found) x k.told)))
+            adds = adds_drawing r (view p) (view q) served l (λ b c x k. absurd (is.not_busy looked found x k.began))
                 NoDeed acted (λ d h. absurd h) shows
                 (tells_by r (view q) served l
                 (record {
@@ -109,7 +108,7 @@ module _ {C O : Type 0} (tells : Bool) (state : C → CellState) (offers : O →
           let none = shows_none r.setting.anchors (view p) (view q) served l refl in
           record {
             drew = drew;
-            adds = adds_drawing r (view p) (view q) served l (λ b x k. absurd (is.not_spent versions x (told_began line.request (answer.Spent versions) x k.told)))
+            adds = adds_drawing r (view p) (view q) served l (λ b c x k. absurd (is.not_spent versions x k.began))
                 NoDeed acted (λ d h. absurd h) none
                 (tells_by r (view q) served l so
                 (offering tells state offers s told past served (view q) l url body is body_is long (λ b e k. (none b e k).seen) (is.spent versions) (λ x k. absurd (is.not_spent versions x k)) fits (λ z. cc)))

@@ -21,6 +21,7 @@ pub mod PutAndGet
 pub mod Quiet
 pub mod Told
 pub mod Stages
+mod Begun
 pub mod Crews
 pub mod Known
 mod Unexplained

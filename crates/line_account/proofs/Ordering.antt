@@ -15,7 +15,7 @@ use Rattle.core_model.specs.declared.view.View.{View}
 use Rattle.core_model.specs.Trails.{seen_at, stood}
 use Rattle.core_model.specs.Versions.{Leads}
 use Rattle.core_model.proofs.Lists.{cons_contains, contains_none}
-use Rattle.line_account.specs.Deeds.{PrintsBegunVersion}
+use Rattle.line_account.specs.Deeds.{Begins}
 use Rattle.line_account.specs.Lines.{IsAt, Served}
 use Rattle.line_account.specs.Requests.{IsAnswerTo}
 use Rattle.line_account.specs.Answers.{ComesIn, HasOpened, Run}
@@ -319,12 +319,12 @@ module _ {X : Type 0} (r : Run X) where
       (λ f q. let le = sight_le a k.epoch t.before.seen k.seen in let fresh = n.fresh a f record { at = at; shown = q } in let less = k.more in omega arith)
       (λ f q same. let up = leads_up (stage_of k.epoch) (stage_of f) (n.stages a k.epoch f record { at = at; shown = q } k.seen (k.version ∙ sym same)) in let less = k.stage in omega arith)
 
-  -- what was seen before a line that began a version there is of an earlier one
-  pub above_seen : (t : Stage X) (earlier : List (Stage X)) (a x d : ℕ) → Adds r t.before (lines_in earlier) t.served t.after → PrintsBegunVersion r.setting.anchors t.served a x → Seen a d t.before → version_of d < x
-  above_seen t earlier a x d n begun k =
-      let le = sight_le a k.epoch t.before.seen k.seen in
-      let up : version_of k.epoch ≤ version_of (seen_at a t.before.seen) = omega arith in
-      let above = n.above a x begun in
+  -- what was seen before a line that began a version is of an earlier one, at whatever anchor
+  pub above_seen : (t : Stage X) (earlier : List (Stage X)) (a b x d : ℕ) → Adds r t.before (lines_in earlier) t.served t.after → Begins r.setting.anchors t.served a x → Seen b d t.before → version_of d < x
+  above_seen t earlier a b x d n begun k =
+      let le = sight_le b k.epoch t.before.seen k.seen in
+      let up : version_of k.epoch ≤ version_of (seen_at b t.before.seen) = omega arith in
+      let above = n.above a b x begun in
       let same = k.version in
       omega arith
 

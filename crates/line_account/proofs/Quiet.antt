@@ -24,7 +24,6 @@ use Rattle.line_account.specs.Answers.{ComesIn, OpenedAs, ReadAs, Reads, Refuses
 use Rattle.line_account.specs.Accounts.{IsOffered, Tells, drew_some, drew_version, epochs_of}
 use Rattle.core_model.specs.Knowing.{KnowsAll}
 use Rattle.line_account.specs.Courses.{Adds, one_if}
-use Rattle.line_account.proofs.Versions.{told_began}
 use Rattle.line_account.specs.Steps.{AtMark, IsAfter, IsIdle, IsMarkLine, IsTabLine}
 
 -- Lists of what steps added.
@@ -238,7 +237,7 @@ module _ {X : Type 0} (r : Run X) where
     deeds = λ d h. inl (subst (λ (l : List Deed). Contains l d) idle.deeds h);
     fresh = λ a e h. absurd (contains_none e (subst (λ (l : List ℕ). Contains l e) (q.epochs s.opened s.looked) h.shown));
     stages = λ a d e h seen same. absurd (contains_none e (subst (λ (l : List ℕ). Contains l e) (q.epochs s.opened s.looked) h.shown));
-    above = λ a x h. absurd (q.began s.asked.request x (told_began s.asked.request s.answer x h.told));
+    above = λ a b x h. absurd (q.began s.asked.request x h.began);
     tells = tells;
     parts = λ t e bytes h. absurd (q.part e bytes h);
   }

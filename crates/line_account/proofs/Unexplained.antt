@@ -214,11 +214,11 @@ module _ {X : Type 0} (r : Run X) (script : List Line) (w : Worker) (rules : Kee
   pub never_before : (g p : Served) (url bytes : List ℕ) (body : Body) (x : ℕ) → w.served ≡ p ∷ g ∷ [] → g.asked.request ≡ Get url → g.answer ≡ answer.Hit x bytes → p.asked.request ≡ Put url body → p.answer ≡ answer.Stored x → ⊥
   never_before g p url bytes body x is gq ga pq pa =
       let a : ℕ = home r url in
-      let later = rules.order.begun a x (epoch_at x 2) g []
-      (line_in [] p (g ∷ []) is (λ earlier z. PrintsBegunVersion r.setting.anchors z a x) (record {
+      let begun = rules.versions.told a x (line_in [] p (g ∷ []) is (λ earlier z. PrintsBegunVersion r.setting.anchors z a x) (record {
         anchor = record { url = url; named_is = ap url_in pq; anchor = refl };
         told = subst (λ (q : Request). TellsBegun q p.answer x) (sym pq) (subst (λ (z : Answer). TellsBegun (Put url body) z x) (sym pa) refl);
-      }))
+      })) in
+      let later = rules.order.begun a a x (epoch_at x 2) g [] (line_in [] p (g ∷ []) is (λ earlier z. Begins r.setting.anchors z a x) begun)
       (own (record { later = []; split = refl }))
       (record {
         at = record { url = url; named_is = ap (url_at []) gq; anchor = refl };

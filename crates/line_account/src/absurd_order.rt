@@ -1,5 +1,5 @@
 //! Examples: lines in an order that no run explains, for the rules refuse them. Each says by which rule.
-ghost use Rattle.std.specs.Prelude.{◌≡◌, ◌≢◌, ◌∷◌, ℕ, List, [], false, true};
+ghost use Rattle.std.specs.Prelude.{◌≡◌, ◌≢◌, ◌≤◌, ◌∷◌, ℕ, List, [], false, true};
 ghost use Rattle.lock_word.specs.declared.cause.Cause.{Cause};
 ghost use Rattle.lock_word.specs.declared.stage.Stage.TheVariants as stage;
 ghost use Rattle.script_text.specs.declared.answer.Answer.{Answer};
@@ -41,6 +41,24 @@ pub fn no_stage_falls<X>()
         → KeepsRules r script (alone w) → w.served ≡ [] then p then g → p.asked.request ≡ Request.Put url body → p.answer ≡ Answer.Stored x
         → g.asked.request ≡ Request.Get url
         → g.answer ≡ Answer.Miss (Cause.Leaving (record { version = x; stage = stage.Appending; doom = true })) → ⊥ }
+{}
+
+/// `put` printed STORED, and the same worker's next `put`, of whatever URL, STORED with a version that is not later: in the lines of a
+/// worker versions rise over all anchors (`order.begun`).
+pub fn no_version_falls<X>()
+    ensures { (r : Run X) (script : List Line) (w : Worker) (p q : Served) (url other : List ℕ) (body next : Body) (x y : ℕ)
+        → KeepsRules r script (alone w) → w.served ≡ [] then p then q → p.asked.request ≡ Request.Put url body → p.answer ≡ Answer.Stored x
+        → q.asked.request ≡ Request.Put other next → q.answer ≡ Answer.Stored y → y ≤ x → ⊥ }
+{}
+
+/// A worker's `put` printed STORED, and it set a mark. Another one met the mark, and its `put`, of whatever URL, printed STORED with a
+/// version that is not later (`order.begun`).
+pub fn no_version_falls_behind_a_mark<X>()
+    ensures { (r : Run X) (script : List Line) (v w : Worker) (p a b q : Served) (url other : List ℕ) (body next : Body) (x y m : ℕ)
+        → KeepsRules r script (v ∷ w ∷ []) → v.served ≡ [] then p then a → w.served ≡ [] then b then q
+        → p.asked.request ≡ Request.Put url body → p.answer ≡ Answer.Stored x → a.asked.request ≡ Request.Mark m
+        → b.asked.request ≡ Request.Await m → b.answer ≡ Answer.Met → q.asked.request ≡ Request.Put other next
+        → q.answer ≡ Answer.Stored y → y ≤ x → ⊥ }
 {}
 
 /// `open` printed OPEN, `more` on its tab END, and the next one something else than END with no byte: PART, OTHERURL, HALTED or FAULT,

@@ -24,8 +24,9 @@ pub use absurd_epochs::{
     nothing_of_the_file_is_freed_where_lines_fit, nothing_of_the_file_is_lost_where_lines_fit,
 };
 pub use absurd_order::{
-    no_stage_falls, nothing_comes_behind_an_end, nothing_comes_behind_another_url,
-    nothing_grows_behind_a_halt, nothing_is_purged_twice, nothing_told_twice_is_forgotten,
+    no_stage_falls, no_version_falls, no_version_falls_behind_a_mark, nothing_comes_behind_an_end,
+    nothing_comes_behind_another_url, nothing_grows_behind_a_halt, nothing_is_purged_twice,
+    nothing_told_twice_is_forgotten,
 };
 pub use absurd_tabs::{
     no_neighbour_is_opened, no_tab_gives_another_body, nothing_refused_is_given_whole,

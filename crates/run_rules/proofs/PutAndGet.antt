@@ -23,7 +23,7 @@ use Rattle.line_account.specs.Bodies.{HaveBodies, HaveKeys}
 use Rattle.line_account.specs.Closing.{BegunIn, HaltedIn, LineIn, PrintsDoomed, PrintsHalted, Stores, TellsBegunIn, Worker}
 use Rattle.line_account.specs.Crews.{IsAmong, KnewOf}
 use Rattle.line_account.specs.Crews.KnewOf.{own, told}
-use Rattle.line_account.specs.Deeds.{Begins, Halts, PrintsBegun, PrintsBegunVersion, TellsBegun}
+use Rattle.line_account.specs.Deeds.{Began, Begins, Halts, PrintsBegun, PrintsBegunVersion}
 use Rattle.line_account.specs.Epochs.{EpochsHaveCauses}
 use Rattle.run_rules.specs.Lawful.{MayBegin, get_line, put_and_get, put_and_get_script, put_line}
 use Rattle.script_text.specs.Requests.{url_in}
@@ -411,12 +411,12 @@ module _ {X : Type 0} (r : Run X) (url : List ℕ) (m : MayBegin r url) (w : Wor
   knew_none earlier none t before (own among) = no_item among.later before t (none ∙ among.split)
   knew_none earlier none t before (told met knows) = no_item met.awaits.later met.between met.met (none ∙ met.awaits.split)
 
-  -- the line that printed that it began a version is the first one, which knew of none
-  begun_first : (P : List Served → Served → Type 0) (p : LineIn crew P) (b y : ℕ) → PrintsBegunVersion r.setting.anchors p.served b y
+  -- the line that began a version is the first one, which knew of none
+  begun_first : (P : List Served → Served → Type 0) (p : LineIn crew P) (b y : ℕ) → Begins r.setting.anchors p.served b y
       → (s : Served) (earlier : List Served) → KnewOf crew p.earlier s earlier → ⊥
   begun_first P p b y begun s earlier knows = ⊎_elim
-      (λ (h : (get ≡ p.served) × (put ∷ [] ≡ p.earlier)). subst (λ (z : Served). TellsBegun z.asked.request z.answer y)
-      (sym h.0) begun.told)
+      (λ (h : (get ≡ p.served) × (put ∷ [] ≡ p.earlier)). subst (λ (z : Served). Began z.asked.request z.answer y)
+      (sym h.0) begun.began)
       (λ (h : (put ≡ p.served) × ([] ≡ p.earlier)). knew_none p.earlier h.1 s earlier knows)
       (line_of P p)
 
@@ -427,8 +427,8 @@ module _ {X : Type 0} (r : Run X) (url : List ℕ) (m : MayBegin r url) (w : Wor
     known = λ b e s earlier p knows counts.
         let line = line_of (λ before t. IsAt r.setting.anchors before t b) p in
         not_above e (counted e s earlier (knew p.earlier p.served line earlier s knows) counts.counts) p.earlier p.served line;
-    begun = λ b y e s earlier p knows counts. absurd (begun_first (λ before t. PrintsBegunVersion r.setting.anchors t b y) p b y p.so s
-        earlier knows);
+    begun = λ b d y e s earlier p knows counts. absurd (begun_first (λ before t. Begins r.setting.anchors t b y) p b y p.so s earlier knows);
+    draws = λ b d y z s earlier p knows began. absurd (begun_first (λ before t. Begins r.setting.anchors t b y) p b y p.so s earlier knows);
   }
 
   no_part : (y : ℕ) → LineIn crew (λ before t. PrintsPart t y) → ⊥
