@@ -106,7 +106,7 @@ module _ {X : Type 0} {g : Ground X} {t a : ℕ} {v : View X} where
   in_use_met looked found w small h (inl more) = looked_met h.looks (let r = readers_of-word_number looked (omega arith) in omega arith)
   in_use_met looked found w small h (inr more) = looked_met h.looks (let r = readers_of-word_number looked (omega arith) in let e = ap Word.readers h.same in omega arith)
 
-  drawn_tabs : {looked found : Word} {w : View X} (h : Overtaken g t a v looked found w) → h.drawn.tabs ≡ v.tabs
+  pub drawn_tabs : {looked found : Word} {w : View X} (h : Overtaken g t a v looked found w) → h.drawn.tabs ≡ v.tabs
   drawn_tabs h = ap View.tabs h.drew.draw.leaves ∙ ap View.tabs h.drew.look.leaves ∙ ap View.tabs h.looks.leaves
 
   overtaken_met : (looked found : Word) (w : View X) → looked.readers < 65536 → found.readers < 65536 → Overtaken g t a v looked found w → (sum_by (counts a) v.tabs < looked.readers) ⊎ (sum_by (counts a) v.tabs < found.readers) → Contains w.met a

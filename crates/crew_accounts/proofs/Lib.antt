@@ -26,6 +26,7 @@ pub mod Coming
 pub mod Purging
 pub mod Readers
 pub mod Beginning
+mod ReadersFound
 pub mod Offering
 pub mod NotBegun
 pub mod BeginLines

@@ -28,3 +28,4 @@ mod Unexplained
 mod UnexplainedEpochs
 mod UnexplainedOrder
 mod UnexplainedTabs
+mod UnexplainedReaders

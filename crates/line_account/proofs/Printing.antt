@@ -34,10 +34,10 @@ use Rattle.script_text.specs.Requests.{url_in}
 use Rattle.line_account.specs.Lines.{begun_by, Fits, LineOf, Offers, Served, added, begun_of, writing}
 use Rattle.line_account.specs.Deeds.{Began, BeganOnTab, Begins, ComesTo, Evicts, IsDeedOf, IsDeedOfEnd}
 use Rattle.line_account.specs.Requests.{IsAnswerTo}
-use Rattle.line_account.specs.Answers.{ComesIn, HasGiven, HasItem, IsSure, bytes_with, HasOther, HasPurged, IsCauseOf, IsEntryAt, IsKeyRead, IsLong, IsSpent, ReadAs, Refuses, Run}
+use Rattle.line_account.specs.Answers.{ComesIn, HasGiven, HasItem, IsSure, bytes_with, HasOther, HasPurged, IsCauseOf, IsEntryAt, IsKeyRead, IsLong, IsSpent, ReadAs, Refuses, Run, AreCounted, readers_at}
 use Rattle.line_account.specs.Accounts.{epoch_in}
 use Rattle.line_account.specs.Closing.{BegunIn, Closed, HaltedIn, LineIn, ShownIn, Worker, offered}
-use Rattle.line_account.specs.Printed.{AnotherComes, EndsBegun, AreFirstOnes, IsStored, ReadsOf, GivenBackIn, HadEntry, HasBusyWords, HasOtherUrl, HitIn, IsBodyOfLine, IsKeyOfLine, IsOldBody, IsOldUrl, KeyIn, NeedsTooMany, PrintsAdded, PrintsEnded, PrintsHit, PrintsKey, PrintsLarge, PrintsOther, PrintsReaders, WasWhole, old_offer}
+use Rattle.line_account.specs.Printed.{AnotherComes, PrintsBusy, EndsBegun, AreFirstOnes, IsStored, ReadsOf, GivenBackIn, HadEntry, HasBusyWords, HasOtherUrl, HitIn, IsBodyOfLine, IsKeyOfLine, IsOldBody, IsOldUrl, KeyIn, NeedsTooMany, PrintsAdded, PrintsEnded, PrintsHit, PrintsKey, PrintsLarge, PrintsOther, PrintsReaders, WasWhole, old_offer}
 use Rattle.line_account.proofs.GivenWay.{gave_way}
 use Rattle.line_account.proofs.HaltedNew.{halted_new}
 use Rattle.line_account.proofs.Gathered.{DeedIn, by_line, counter_below, counter_is, deed_in, inside, shown_known, tells_at}
@@ -212,6 +212,16 @@ module _ {X : Type 0} (r : Run X) (crew : List Worker) (c : Closed r crew) where
       found = record { other = r.url told.entry.offer; is = record { same_key = told.same_key; differs = told.differs; source = source } }
 
   -- Readers.
+
+  abbrev PrintsSo : ℕ → Word → Word → List Served → Served → Type 0
+  PrintsSo a looked other earlier s = PrintsBusy r.setting.anchors earlier s a looked other
+
+  pub counted_readers : (a : ℕ) (looked other : Word) (p : LineIn crew (PrintsSo a looked other))
+      → AreCounted (length crew) (readers_at r.setting.anchors p.earlier a) looked.readers × AreCounted (length crew) (readers_at r.setting.anchors p.earlier a) other.readers
+  counted_readers a looked other p =
+      let own : ℕ = readers_at r.setting.anchors p.earlier a in
+      subst (λ (n : ℕ). AreCounted n own looked.readers × AreCounted n own other.readers) (sym c.count)
+      (((tells_at r crew c (PrintsSo a looked other) p).busy looked other p.so.printed).counted a p.so.at)
 
   pub another_comes : (a : ℕ) (p : LineIn crew (λ earlier s. PrintsReaders r.setting.anchors earlier s a)) → AnotherComes r crew p.j a
   another_comes a p = of_deed (deed_in r crew c (EnteredByAnother a (c.view_at p.j).pass) (c.sound.anchors.deeds.met (c.index p.j) (c.view_at p.j) (c.at p.j p.worker p.at) a met))

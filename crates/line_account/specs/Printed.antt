@@ -193,6 +193,13 @@ pub record PrintsReaders (anchors : ℕ) (earlier : List Served) (s : Served) (a
   -- one of them has more readers than tabs of the worker read there
   pub more : (readers_at anchors earlier a < looked.readers) ⊎ (readers_at anchors earlier a < other.readers)
 
+-- a line at the anchor a printed BUSY with these words
+pub record PrintsBusy (anchors : ℕ) (earlier : List Served) (s : Served) (a : ℕ) (looked other : Word) : Type 0 where
+  -- the line is at work there
+  pub at : IsAt anchors earlier s a
+  -- it printed BUSY with the words
+  pub printed : s.answer ≡ answer.Busy looked other
+
 -- another worker than the one numbered j opens, gets or purges a URL of the anchor a
 pub record AnotherComes {X : Type 0} (r : Run X) (crew : List Worker) (j a : ℕ) : Type 0 where
   -- a line that opens, gets or purges such a URL

@@ -25,7 +25,7 @@ ghost use Rattle.line_account.specs.Ordering.{AreInOrder, AreNotShort};
 ghost use Rattle.line_account.specs.Scripts.{ServesScript, offering};
 ghost use Rattle.line_account.specs.Idle.{idle_workers};
 ghost use Rattle.line_account.specs.Order.{FindsEntry, PrintsAlone};
-ghost use Rattle.line_account.specs.Answers.{IsCauseOf, IsLong, Refuses, Run, bytes_with};
+ghost use Rattle.line_account.specs.Answers.{AreCounted, IsCauseOf, IsLong, Refuses, Run, bytes_with, readers_at};
 ghost use Rattle.core_model.specs.declared.view.Deed.{Deed};
 ghost use Rattle.core_model.specs.declared.view.Item.{Item};
 ghost use Rattle.core_model.specs.declared.view.Sight.{Sight};
@@ -35,7 +35,7 @@ ghost use Rattle.line_account.specs.Accounts.{Account, epoch_in};
 ghost use Rattle.core_model.specs.Knowing.{KnowsAll};
 ghost use Rattle.line_account.specs.Courses.{Adds, Begins as BeginsWork, Course, Leaves, Stage, lines_in};
 ghost use Rattle.line_account.specs.Steps.{IsAfter, IsIdle, IsMarkLine, IsTabLine};
-ghost use Rattle.line_account.specs.Printed.{AnotherComes, EndsBegun, AreFirstOnes, ReadsOf, GivenBackIn, HadEntry, PrintsAdded, HasBusyWords, HasOtherUrl, HitIn, IsBodyAsPrinted, IsBodyOfLine, IsKeyOfLine, IsOldBody, IsOldUrl, KeyIn, NeedsTooMany, OffersAtOnce, PrintsEnded, PrintsFinished, PrintsLarge, PrintsOther, ReadsWhole, Finds, FinishedIn, PrintsReaders};
+ghost use Rattle.line_account.specs.Printed.{AnotherComes, PrintsBusy, EndsBegun, AreFirstOnes, ReadsOf, GivenBackIn, HadEntry, PrintsAdded, HasBusyWords, HasOtherUrl, HitIn, IsBodyAsPrinted, IsBodyOfLine, IsKeyOfLine, IsOldBody, IsOldUrl, KeyIn, NeedsTooMany, OffersAtOnce, PrintsEnded, PrintsFinished, PrintsLarge, PrintsOther, ReadsWhole, Finds, FinishedIn, PrintsReaders};
 ghost use Rattle.line_account.specs.Closing.{Closed, Worker, BegunIn, TellsBegunIn, ShownIn, StoredIn, HaltedIn, PurgedIn, IsSameLine, LineIn, PrintsHalted, PrintsDoomed, SomeHalted, offered};
 ghost use Rattle.lock_word.specs.declared.stage.Stage.TheVariants as stage;
 ghost use Rattle.line_account.specs.EpochNames.{IsAtStage, IsDoomed, IsFromStage, IsUndoomed, IsUpToStage};
@@ -225,6 +225,15 @@ pub fn other_urls_have_the_key<X>()
 pub fn more_readers_come_from_others<X>()
     ensures { (r : Run X) (crew : List Worker) (a : ℕ) → Closed r crew
         → (p : LineIn crew (λ earlier s. PrintsReaders r.setting.anchors earlier s a)) → AnotherComes r crew p.j a }
+{}
+
+/// Each word of BUSY counts all tabs of the worker that read at the anchor, and of each other worker nine tabs
+/// at most.
+pub fn busy_words_count_readers<X>()
+    ensures { (r : Run X) (crew : List Worker) (a : ℕ) (looked other : Word) → Closed r crew
+        → (p : LineIn crew (λ earlier s. PrintsBusy r.setting.anchors earlier s a looked other))
+        → AreCounted (length crew) (readers_at r.setting.anchors p.earlier a) looked.readers
+        × AreCounted (length crew) (readers_at r.setting.anchors p.earlier a) other.readers }
 {}
 
 /// The number of SPENT is at least the greatest version that may be drawn, and at most the counter of the

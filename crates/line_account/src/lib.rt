@@ -29,8 +29,8 @@ pub use absurd_order::{
     nothing_told_twice_is_forgotten,
 };
 pub use absurd_tabs::{
-    no_neighbour_is_opened, no_tab_gives_another_body, nothing_refused_is_given_whole,
-    nothing_stored_is_halted,
+    no_neighbour_is_opened, no_own_tab_is_uncounted, no_tab_gives_another_body,
+    nothing_has_more_readers_than_tabs, nothing_refused_is_given_whole, nothing_stored_is_halted,
 };
 pub use examples::{
     a_hit_has_what_was_stored, a_lone_spent_number_is_the_counter, a_lone_version_is_the_next_one,
@@ -39,13 +39,13 @@ pub use examples::{
 };
 pub use laws::{
     accounts_grow, added_counts_are_exact, additions_are_kept, begun_versions_have_bounds,
-    bytes_are_of_lines, doomed_entries_were_purged, ends_tell_the_version_begun,
-    entries_are_given_back_by_lines, entries_are_stored_by_lines, entries_found_were_there,
-    entries_given_whole_were_finished, epochs_have_versions, halted_entries_were_given_up,
-    hit_versions_were_printed, hits_are_of_lines, idle_workers_are_closed, keys_are_of_lines,
-    lines_are_in_order, more_readers_come_from_others, other_urls_have_the_key,
-    parts_are_not_short, quiet_lines_add_nothing, refusals_have_causes, runs_that_fit_lose_nothing,
-    scripts_bound_what_is_offered, spent_numbers_have_bounds, tabs_stay_at_their_entries,
-    versions_are_begun_by_one_line, versions_printed_alone_are_known,
+    busy_words_count_readers, bytes_are_of_lines, doomed_entries_were_purged,
+    ends_tell_the_version_begun, entries_are_given_back_by_lines, entries_are_stored_by_lines,
+    entries_found_were_there, entries_given_whole_were_finished, epochs_have_versions,
+    halted_entries_were_given_up, hit_versions_were_printed, hits_are_of_lines,
+    idle_workers_are_closed, keys_are_of_lines, lines_are_in_order, more_readers_come_from_others,
+    other_urls_have_the_key, parts_are_not_short, quiet_lines_add_nothing, refusals_have_causes,
+    runs_that_fit_lose_nothing, scripts_bound_what_is_offered, spent_numbers_have_bounds,
+    tabs_stay_at_their_entries, versions_are_begun_by_one_line, versions_printed_alone_are_known,
 };
 pub use rules::closed_crews_keep_the_rules;

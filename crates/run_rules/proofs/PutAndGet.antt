@@ -33,7 +33,7 @@ use Rattle.line_account.specs.Ordering.{AreInOrder, AreNotShort}
 use Rattle.line_account.specs.Parts.{PrintsPart}
 use Rattle.line_account.specs.Printed.{AreFirstOnes, Ends, EndsBegun, Finds, FinishedIn, IsBodyAsPrinted, IsBodyOfLine, IsKeyOfLine}
 use Rattle.line_account.specs.Printed.{NeedsTooMany, PrintsAdded, PrintsEnded, PrintsHit, PrintsKey, PrintsLarge, PrintsOther}
-use Rattle.line_account.specs.Printed.{PrintsReaders, ReadsOf, ReadsVersion, ReadsWhole}
+use Rattle.line_account.specs.Printed.{PrintsBusy, PrintsReaders, ReadsOf, ReadsVersion, ReadsWhole}
 use Rattle.line_account.specs.Refusals.{Any, AnswersHaveCauses}
 use Rattle.line_account.specs.Requests.{IsAnswerTo}
 use Rattle.line_account.specs.Rules.{KeepsRules}
@@ -187,6 +187,9 @@ module _ {X : Type 0} (r : Run X) (url : List ℕ) (m : MayBegin r url) (w : Wor
     readers = λ b p. absurd (never (λ earlier s. PrintsReaders r.setting.anchors earlier s b)
         (λ h. let k : answer.Hit x [] ≡ answer.Busy h.looked h.other = h.printed in cc)
         (λ h. let k : answer.Stored x ≡ answer.Busy h.looked h.other = h.printed in cc) p);
+    counted = λ b looked other p. absurd (never (λ earlier s. PrintsBusy r.setting.anchors earlier s b looked other)
+        (λ h. let k : answer.Hit x [] ≡ answer.Busy looked other = h.printed in cc)
+        (λ h. let k : answer.Stored x ≡ answer.Busy looked other = h.printed in cc) p);
     spent = λ n p. absurd (never (λ earlier s. s.answer ≡ answer.Spent n) (λ h. let k : answer.Hit x [] ≡ answer.Spent n = h in cc)
         (λ h. let k : answer.Stored x ≡ answer.Spent n = h in cc) p);
     large = λ first u body p o. absurd (never (λ earlier s. PrintsLarge earlier s first)
