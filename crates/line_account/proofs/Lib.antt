@@ -29,3 +29,4 @@ mod UnexplainedEpochs
 mod UnexplainedOrder
 mod UnexplainedTabs
 mod UnexplainedReaders
+mod UnexplainedDraws

@@ -6,7 +6,7 @@ ghost use Rattle.script_text.specs.declared.answer.Answer.{Answer};
 ghost use Rattle.script_text.specs.declared.body.Body.{Body};
 ghost use Rattle.script_text.specs.declared.line.Line.{Line};
 ghost use Rattle.script_text.specs.declared.request.Request.{Request};
-ghost use Rattle.line_account.specs.Alone.{alone};
+ghost use Rattle.line_account.specs.Alone.{alone, home};
 ghost use Rattle.line_account.specs.Answers.{Run};
 ghost use Rattle.line_account.specs.Closing.{Worker};
 ghost use Rattle.line_account.specs.Lines.{Served};
@@ -59,6 +59,17 @@ pub fn no_version_falls_behind_a_mark<X>()
         → p.asked.request ≡ Request.Put url body → p.answer ≡ Answer.Stored x → a.asked.request ≡ Request.Mark m
         → b.asked.request ≡ Request.Await m → b.answer ≡ Answer.Met → q.asked.request ≡ Request.Put other next
         → q.answer ≡ Answer.Stored y → y ≤ x → ⊥ }
+{}
+
+/// A worker's `put` printed FULL, and its next one, of a URL with another anchor, STORED. Another worker's `get` of the first URL printed MISS
+/// absent at GONE, of a version that is no earlier, and no other line begins any: what was given up first has the earlier version, though
+/// no line printed that it began it (`order.draws`).
+pub fn nothing_given_up_before_is_later<X>()
+    ensures { (r : Run X) (script : List Line) (u w : Worker) (p q g : Served) (url other : List ℕ) (body next : Body) (x y : ℕ)
+        → KeepsRules r script (u ∷ w ∷ []) → u.served ≡ [] then p then q → w.served ≡ [] then g → home r url ≢ home r other
+        → p.asked.request ≡ Request.Put url body → p.answer ≡ Answer.Full → q.asked.request ≡ Request.Put other next
+        → q.answer ≡ Answer.Stored x → g.asked.request ≡ Request.Get url
+        → g.answer ≡ Answer.Miss (Cause.Absent (record { version = y; stage = stage.Gone; doom = false })) → x ≤ y → ⊥ }
 {}
 
 /// `open` printed OPEN, `more` on its tab END, and the next one something else than END with no byte: PART, OTHERURL, HALTED or FAULT,

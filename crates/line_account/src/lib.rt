@@ -25,8 +25,8 @@ pub use absurd_epochs::{
 };
 pub use absurd_order::{
     no_stage_falls, no_version_falls, no_version_falls_behind_a_mark, nothing_comes_behind_an_end,
-    nothing_comes_behind_another_url, nothing_grows_behind_a_halt, nothing_is_purged_twice,
-    nothing_told_twice_is_forgotten,
+    nothing_comes_behind_another_url, nothing_given_up_before_is_later,
+    nothing_grows_behind_a_halt, nothing_is_purged_twice, nothing_told_twice_is_forgotten,
 };
 pub use absurd_tabs::{
     no_neighbour_is_opened, no_own_tab_is_uncounted, no_tab_gives_another_body,
