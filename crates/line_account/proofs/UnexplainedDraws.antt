@@ -1,5 +1,5 @@
 -- A version that no line printed, and that is later than one which its worker began behind it.
-use Rattle.std.proofs.Common.{Contains, List, [], ap, arith, inl, inr, refl, subst, suc, sym, zero, ⊎_elim, ◌++◌, ◌<◌, ◌∙◌, ◌∷◌, ◌≡◌, ◌≤◌, ◌⊎◌, ℕ}
+use Rattle.std.proofs.Common.{Contains, List, [], ap, arith, false, inl, inr, refl, subst, suc, sym, zero, ⊎_elim, ◌++◌, ◌<◌, ◌∙◌, ◌∷◌, ◌≡◌, ◌≤◌, ◌⊎◌, ℕ}
 use Rattle.std.specs.Prelude.{Some, ◌≢◌}
 use mathlib.Core.Option.{some, some-injective, some-ne-none}
 use lib.ListN.{get_elem?}
