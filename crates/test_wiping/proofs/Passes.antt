@@ -1,4 +1,4 @@
--- A pass keeps its number, whatever a durable purge comes to, and it is at rest again.
+-- A pass keeps its number, whatever a durable purge comes to.
 use Rattle.std.proofs.Common.{Bool, List, ap, inl, inr, subst, ◌≡◌, ◌∙◌, ℕ}
 use Rattle.std.specs.Prelude.{Err, IfErr, IfOk, Ok, Result}
 use Rattle.lock_word.specs.declared.epoch.Epoch.{Epoch}
@@ -14,9 +14,8 @@ use Rattle.store_rule.specs.Told.{Steps}
 use Rattle.store_rule.specs.Turns.{IsReturned, new_hold}
 use Rattle.rw_anchor.specs.Calls.{Leaves}
 use Rattle.rw_anchor.specs.declared.Left.{Left}
-use Rattle.slice_chain.specs.Freeing.{Freed}
 use Rattle.slice_chain.specs.Names.{KeyLoaded}
-use Rattle.slice_chain.specs.Wiping.{WipedFirst, WipedSlot}
+use Rattle.slice_chain.specs.Wiping.{WipedSlot}
 use Rattle.rock_reader.specs.Closing.{Parted}
 use Rattle.rock_reader.specs.Opening.{Refused}
 use Rattle.purge_entry.specs.Purging.{Purged}
