@@ -69,7 +69,7 @@ fn takes(alloc: Global, row: &str) -> Option<bool> {
     hold(&pool, &mut seat, held)?;
     let made = open_mem::<MemCell, Nothing>(alloc, &pool, &mut seat, wanted, 512, 1, 1, Nothing);
     let found = match made {
-        Ok((store, _)) => store.slots(),
+        Ok((store, _passes)) => store.slots(),
         Err(MemFault::NoPage { got }) => got,
         Err(MemFault::Memory) => return None,
     };
