@@ -97,9 +97,9 @@ fn is_so_in_pages<R: Wait>(rt: &R, alloc: Global, row: &str) -> Option<bool> {
     let (head, text) = row.split_once('\n').unwrap_or((row, ""));
     let wanted = numbers::<5>("", head)?;
     let [slots, anchors, ..] = wanted;
-    let script = script_of(alloc, text, short(anchors))?;
-    let pages = short(slots);
-    if pages == 0 || pages > 1048576 || short(anchors) == 0 {
+    let (pages, anchors) = (short(slots), short(anchors));
+    let script = script_of(alloc, text, anchors)?;
+    if pages == 0 || pages > 1048576 || anchors == 0 {
         return None;
     }
     let (pool, mut seat) = Pool::new(alloc, pages, 512).ok()?;
@@ -109,10 +109,10 @@ fn is_so_in_pages<R: Wait>(rt: &R, alloc: Global, row: &str) -> Option<bool> {
         &pool,
         &mut seat,
         pages,
-        short(anchors),
+        anchors,
         &script,
     )?;
-    Some(numbers_of(&close_counted(store, passes), anchors) == wanted)
+    Some(numbers_of(&close_counted(store, passes), u64::from(anchors)) == wanted)
 }
 
 #[test]
