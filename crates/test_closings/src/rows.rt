@@ -103,15 +103,7 @@ fn is_so_in_pages<R: Wait>(rt: &R, alloc: Global, row: &str) -> Option<bool> {
         return None;
     }
     let (pool, mut seat) = Pool::new(alloc, pages, 512).ok()?;
-    let (store, passes) = served_in_pages(
-        rt,
-        alloc,
-        &pool,
-        &mut seat,
-        pages,
-        anchors,
-        &script,
-    )?;
+    let (store, passes) = served_in_pages(rt, alloc, &pool, &mut seat, pages, anchors, &script)?;
     Some(numbers_of(&close_counted(store, passes), u64::from(anchors)) == wanted)
 }
 
