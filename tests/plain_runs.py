@@ -5,11 +5,12 @@ Each file is new, or random, or has a slot of a version near the last one. Two s
 the second over what the first left. What is printed is compared, byte for byte, with the answers of the plain store of
 docs/SERVING.md, which is written here anew, from that page, docs/SCRIPT.md and docs/FORMATS.md. Behind each run the
 file is read by tests/changed_files.py: a rebuild must keep each entry that is whole in the plain store, with its
-version, its URL and its body, and `rock list` must print the entries of that reading. The program was proved to do so;
-this shows that both readings of the pages agree, and nothing of the program is taken on trust. Answers and courses are
-counted by kinds, and each kind of the list below must come, and no other. It stands outside the gate. ROCK is the path
-of a program that is built; without it the program is built first where it is out of date. FILES are 1500 where nothing
-else is said; with few of them rare kinds may be missing. The status is 0 where all agree.
+version, its URL and its body, and `rock list` must print the entries of that reading, of which none is of a version
+that was stored and wiped by the run. The program was proved to do so; this shows that both readings of the pages agree,
+and nothing of the program is taken on trust. Answers and courses are counted by kinds, and each kind of the list below
+must come, and no other. It stands outside the gate. ROCK is the path of a program that is built; without it the program
+is built first where it is out of date. FILES are 1500 where nothing else is said; with few of them rare kinds may be
+missing. The status is 0 where all agree.
 """
 import collections
 import os
@@ -35,12 +36,13 @@ POOL = SHORT + [b"http://host.example/" + b"x" * 300, b"M" * 440]
 KINDS = """
     STORED DOOMED SPENT LONGURL FULL LARGE HIT END HALTED BEGUN ADDED DROPPED OPEN CLOSED MARKED MET UNMET
     BUSY_1 BUSY_2 BUSY_2d BUSY_3 BUSY_3d BUSY_4 BUSY_4d PART_2 PART_2d PURGED_2d PURGED_3d
+    WIPED_3d LATER_2d LATER_3d
     MISS_absent_0 MISS_absent_6 MISS_absent_6d MISS_writing_1 MISS_leaving_2d MISS_leaving_3d MISS_leaving_4
     MISS_leaving_4d MISS_other_2 MISS_other_3
     NONE_absent_0 NONE_absent_6 NONE_absent_6d NONE_writing_1 NONE_leaving_2d NONE_leaving_3d NONE_leaving_4
     NONE_leaving_4d NONE_other_2 NONE_other_3
     TAB_begin TAB_add TAB_end TAB_drop TAB_open TAB_more TAB_close
-    put save get purge begin add end drop open more close mark await
+    put save get purge wipe begin add end drop open more close mark await
     evicted evicted_behind_the_hand evicted_in_vain refused_at_the_first_publishing refused_at_a_later_publishing
     refused_at_the_last_slot HIT_of_the_file HIT_of_many_slots replaced found_whole
     tied_in_the_file counter_of_no_entry
@@ -103,6 +105,7 @@ class Store:
         headers = [Header(slot, len(images)) for slot in images]
         self.slots, self.anchors, self.counts = len(images), anchors, counts
         self.hand, self.tabs, self.places, self.marks = 0, [None] * 8, [Place() for _ in range(anchors)], set()
+        self.wiped = set()
         self.counter = self.greatest = max((h.version for h in headers if h.is_sane), default=0)
         self.complete = [found for start in range(len(images)) if (found := entry_at(images, headers, start))]
         self.counts["counter_of_no_entry"] += self.counter > max((found[1] for found in self.complete), default=0)
@@ -294,6 +297,13 @@ class Store:
         self.settle(self.anchor(url))
         return f"PURGED {epoch}"
 
+    def wipe(self, url):
+        version, goes = self.place(url).version, self.is_idle(self.anchor(url))
+        answer = self.purge(url).replace("PURGED", "WIPED" if goes else "LATER")
+        if answer.startswith("WIPED"):
+            self.wiped.add(version)
+        return answer
+
     def mark(self, mark):
         self.marks.add(mark)
         return "MARKED"
@@ -344,10 +354,10 @@ def kind_of(name, answer):
 # Files and scripts.
 # The requests that are made: those that a tab is ready for, those that free it, those of no tab, and all. At times a
 # script has other shares of each.
-READY = {type(None): "begin open open", Writer: "add add add add add purge end drop", Reader: "more more more close"}
+READY = {type(None): "begin open open", Writer: "add add add add add purge wipe end drop", Reader: "more more more close"}
 FREEING = {type(None): "put get", Writer: "end drop", Reader: "close"}
-WHOLE = "put put put put save save get get get get purge purge mark await"
-EVERY = "put save get purge begin add end drop open more close mark await"
+WHOLE = "put put put put save save get get get get purge wipe mark await"
+EVERY = "put save get purge wipe begin add end drop open more close mark await"
 SHARES = [(6, 0, 3, 1), (6, 0, 3, 1), (4, 0, 9, 1), (2, 0, 12, 1), (0, 9, 6, 1)]
 
 
@@ -368,7 +378,7 @@ def url_for(chance, store, urls, name):
     readable = [url for url in urls if causes[url] is None]
     grows = [url for url in readable if store.place(url).stage() == APPENDING]
     leaving = [url for url in urls if causes[url] and causes[url].startswith("leaving")]
-    others = leaving or grows or readable if name == "purge" else grows or readable
+    others = leaving or grows or readable if name in ("purge", "wipe") else grows or readable
     fitting = vacant if name in ("put", "save", "begin") else others
     return chance.choice(fitting if fitting and chance.random() < 0.5 else urls)
 
@@ -385,7 +395,7 @@ def line_for(chance, store, urls, shares):
         name = "await"
     if name in ("put", "save"):
         return [name, url, body_for(chance, url)]
-    if name in ("get", "purge"):
+    if name in ("get", "purge", "wipe"):
         return [name, url]
     rest = {"begin": [url, body_for(chance, url)], "open": [url], "add": [count]}.get(name, [])
     return [name, mark] if name in ("mark", "await") else [name, tab, *rest]
@@ -475,7 +485,7 @@ def is_kept(place, found):
 
 
 def compare(chance, name, counts):
-    """What failed of a file: of two scripts, of the entries behind them, or of the listings of these."""
+    """What failed of a file: of two scripts, of the entries behind them, of the listings of these, or of what was wiped."""
     make_file(chance, name)
     images = images_of(name)
     anchors, urls = setting_for(chance, len(images))
@@ -492,6 +502,9 @@ def compare(chance, name, counts):
             yield f"the entries behind the {turn} script"
         if rock("list", name, SLOT) != listing(found.complete):
             yield f"the listing behind the {turn} script"
+        # Of a version of the file there may be a second entry, which is not wiped.
+        if any(version in store.wiped and version > store.greatest for _, version, *_ in found.complete):
+            yield f"what was wiped by the {turn} script"
         store = found
     os.remove(name)
 
@@ -510,7 +523,7 @@ def main():
             failed += 1
             print(f"FAILED: {kind} came {counts[kind]} times")
     print(*(f"{kind}={count}" for kind, count in sorted(counts.items())))
-    print(f"{failed} comparisons failed, of {6 * files} and {len(KINDS)} kinds of answers and courses")
+    print(f"{failed} comparisons failed, of {8 * files} and {len(KINDS)} kinds of answers and courses")
     sys.exit(1 if failed else 0)
 
 

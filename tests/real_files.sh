@@ -133,7 +133,7 @@ awk '/^\$/ { on = $0 == "$ cat script"; next } on' example >script
 while IFS= read -r line; do
     case $line in '$ '*) printf '%s\n' "$line" && (set -e && PATH=$folder:$PATH && eval "${line#'$ '}" </dev/null) ;; esac
 done <example >printed
-[ "$(grep -c '^\$' example)" -eq 5 ] && cmp -s example printed
+[ "$(grep -c '^\$' example)" -eq 7 ] && cmp -s example printed
 holds 'the example of OPERATING.md prints what stands there' $?
 
 # The same run with every byte, and a later run, which finds what the first one left in the file. The slot of what
@@ -162,6 +162,32 @@ END
 row 0 $'ENTRY 0 3 1 5 http://a/b\nENTRY 1 2 3 1300 http://a/c\n' '' list new 512
 run_row 0 '' '' '' new 512 8 1
 row 0 $'slots=8 kept=2 used=4 free=4 version=3\n' '' check new 512 8
+
+# A later run wipes what the file has: of three slots the first one, which has zeros then.
+served new 512 8 1 <<'END'
+1 wipe http://a/c|WIPED 2.3d
+1 get http://a/c|MISS absent 2.6d
+1 wipe http://a/d|NONE absent 0.0
+END
+row 0 $'ENTRY 0 3 1 5 http://a/b\n' '' list new 512
+cmp -s -i $((16384 + 512)):0 -n 512 new /dev/zero
+holds 'the first slot of what was wiped has zeros' $?
+row 0 $'slots=8 kept=1 used=1 free=7 version=3\n' '' check new 512 8
+
+# What was replaced before is not erased with what took its place. With two anchors http://a/02 is at the first, and http://a/00
+# at the second.
+new_served 4 2 1 <<'END'
+1 put http://a/00 =x|STORED 1
+1 put http://a/02 =y|STORED 2
+1 purge http://a/00|PURGED 1.3d
+1 put http://a/02 =z|STORED 3
+END
+row 0 $'ENTRY 0 3 1 1 http://a/02\nENTRY 1 2 1 1 http://a/02\n' '' list new 512
+served new 512 2 1 <<'END'
+1 wipe http://a/02|WIPED 3.3d
+1 get http://a/02|MISS absent 3.6d
+END
+row 0 $'ENTRY 1 2 1 1 http://a/02\n' '' list new 512
 
 # The examples of SCRIPT.md.
 new_served 4 1 1 <<'END'
@@ -193,6 +219,41 @@ new_served 4 1 1 <<'END'
 1 get http://a/b|MISS absent 1.6d
 1 purge http://a/b|NONE absent 1.6d
 END
+new_served 4 1 1 <<'END'
+1 save http://a/b =x|STORED 1
+1 wipe http://a/b|WIPED 1.3d
+1 get http://a/b|MISS absent 1.6d
+END
+row 0 '' '' list new 512
+cmp -s new <(printf 'RockSMP2\0\2\0\0\4\0\0\0' && head -c 18416 /dev/zero)
+holds 'the only slot of an entry that was wiped is zeros' $?
+new_served 4 1 1 <<'END'
+1 save http://a/b =x|STORED 1
+1 purge http://a/b|PURGED 1.3d
+1 get http://a/b|MISS absent 1.6d
+END
+row 0 $'ENTRY 0 1 1 1 http://a/b\n' '' list new 512
+new_served 4 1 1 <<'END'
+1 put http://a/b =x|STORED 1
+1 open 0 http://a/b|OPEN 1
+1 wipe http://a/b|LATER 1.3d
+1 close 0|CLOSED
+END
+row 0 $'ENTRY 0 1 1 1 http://a/b\n' '' list new 512
+# A later run wipes what a purge, or a wipe that was too early, left in the file.
+served new 512 1 1 <<'END'
+1 wipe http://a/b|WIPED 1.3d
+1 wipe http://a/b|NONE absent 1.6d
+END
+row 0 '' '' list new 512
+# Of an entry of four slots the first one is wiped.
+new_served 4 1 1 <<'END'
+1 put http://a/b #1500:0|STORED 1
+1 wipe http://a/b|WIPED 1.3d
+END
+row 0 '' '' list new 512
+[ "$(tail -c +16385 new | head -c 512 | tr -d '\0' | wc -c)" -eq 0 ] && [ "$(tail -c +16897 new | tr -d '\0' | wc -c)" -gt 1000 ]
+holds 'of an entry of four slots that was wiped the first slot is zeros, and the others are not' $?
 new_served 8 1 1 <<'END'
 1 begin 0 http://a/b #1300:0|BEGUN 1
 1 open 1 http://a/b|MISS writing 1.1
@@ -242,6 +303,17 @@ new_served 4 1 1 <<'END'
 1 end 0|DOOMED 1
 1 get http://a/b|MISS absent 1.6d
 END
+new_served 4 1 1 <<'END'
+1 begin 0 http://a/b #900:0|BEGUN 1
+1 wipe http://a/b|NONE writing 1.1
+1 add 0 900|ADDED 900
+1 wipe http://a/b|LATER 1.2d
+1 end 0|DOOMED 1
+1 put http://a/b =x|STORED 2
+1 wipe http://a/b|WIPED 2.3d
+1 get http://a/b|MISS absent 2.6d
+END
+row 0 '' '' list new 512
 short=$(printf 'http://a/%431s' '' | tr ' ' u)
 new_served 4 1 1 <<END
 1 put ${short}u =x|LONGURL
@@ -625,6 +697,18 @@ if "${as[@]}" true 2>/dev/null; then
 1 get http://a/b|MISS absent 8.6
 END
     row 0 $'ENTRY 0 7 1 5 http://a/b\n' '' list one 512
+    # Nor is anything wiped.
+    served one 512 1 1 <<'END'
+1 wipe http://a/b|FAULT
+1 get http://a/b|MISS absent 7.6d
+END
+    served one 512 1 1 <<'END'
+1 open 0 http://a/b|OPEN 7
+1 wipe http://a/b|LATER 7.3d
+1 more 0|END 5 68656c6c6f
+1 wipe http://a/b|NONE leaving 7.3d
+END
+    row 0 $'ENTRY 0 7 1 5 http://a/b\n' '' list one 512
     row 6 '' "rock: DeviceFault: closed/db $disk" create closed/db 512 1
     # Of a file that another user owns counts what its mode gives to others.
     if [ "$(id -u)" -eq 0 ]; then
@@ -803,6 +887,12 @@ if command -v strace >/dev/null && strace -o calls true 2>/dev/null; then
     [ $? -eq 0 ] && [ "$(grep -o 'pwrite64\|fdatasync\|fsync' calls | tr '\n' ' ')" = \
         'pwrite64 pwrite64 pwrite64 fdatasync pwrite64 fdatasync ' ]
     holds 'save syncs each slot, and put none' $?
+    # A wipe writes the first of two slots, and syncs that. A purge writes nothing.
+    printf '1 purge http://a/b\n1 put http://a/c #431:0\n1 wipe http://a/c\n' >script
+    strace -f -o calls -e trace=pwrite64,fsync,fdatasync ./rock run new 512 8 1 <script >printed 2>said
+    [ $? -eq 0 ] && [ "$(cut -d ' ' -f 3 printed | tr '\n' ' ')" = 'PURGED STORED WIPED ' ] &&
+        [ "$(grep -o 'pwrite64\|fdatasync\|fsync' calls | tr '\n' ' ')" = 'pwrite64 pwrite64 pwrite64 fdatasync ' ]
+    holds 'a wipe writes one slot and syncs it, and a purge writes nothing' $?
 else
     skip 'the sync of a new file and of save: there is no strace that runs here'
 fi

@@ -60,6 +60,8 @@ answer_named name words =
     (cond (is name (codes "OTHERURL")) answer.OtherUrl
     (cond (is name (codes "MISS")) (answer.Miss (cause_from words))
     (cond (is name (codes "PURGED")) (answer.Purged (epoch_of (first words)))
+    (cond (is name (codes "WIPED")) (answer.Wiped (epoch_of (first words)))
+    (cond (is name (codes "LATER")) (answer.Later (epoch_of (first words)))
     (cond (is name (codes "NONE")) (answer.NoEntry (cause_from words))
     (cond (is name (codes "BEGUN")) (answer.Begun (number_of (first words)))
     (cond (is name (codes "ADDED")) (answer.Added (number_of (first words)))
@@ -69,7 +71,7 @@ answer_named name words =
     (cond (is name (codes "MARKED")) answer.Marked
     (cond (is name (codes "MET")) answer.Met
     (cond (is name (codes "UNMET")) answer.Unmet
-    answer.Tab)))))))))))))))))))))))
+    answer.Tab)))))))))))))))))))))))))
 
 abbrev pub answer_from : List (List ℕ) → Answer
 answer_from words = answer_named (first words) (rest words)
@@ -104,6 +106,8 @@ answer_back (answer.ReadFault bytes) fits = ap answer.ReadFault (bytes_back byte
 answer_back answer.OtherUrl fits = refl
 answer_back (answer.Miss cause) fits = ap answer.Miss (cause_back cause fits)
 answer_back (answer.Purged epoch) fits = ap answer.Purged (epoch_back epoch fits)
+answer_back (answer.Wiped epoch) fits = ap answer.Wiped (epoch_back epoch fits)
+answer_back (answer.Later epoch) fits = ap answer.Later (epoch_back epoch fits)
 answer_back (answer.NoEntry cause) fits = ap answer.NoEntry (cause_back cause fits)
 answer_back (answer.Begun version) fits = ap answer.Begun (version_back version fits)
 answer_back (answer.Added count) fits = ap answer.Added (version_back count fits)
@@ -144,6 +148,8 @@ answer_dark (answer.ReadFault bytes) fits = (dark_by_test (codes "FAULT") refl, 
 answer_dark answer.OtherUrl fits = (dark_by_test (codes "OTHERURL") refl, tt)
 answer_dark (answer.Miss cause) fits = (dark_by_test (codes "MISS") refl, cause_dark cause fits)
 answer_dark (answer.Purged epoch) fits = (dark_by_test (codes "PURGED") refl, (epoch_dark epoch fits, tt))
+answer_dark (answer.Wiped epoch) fits = (dark_by_test (codes "WIPED") refl, (epoch_dark epoch fits, tt))
+answer_dark (answer.Later epoch) fits = (dark_by_test (codes "LATER") refl, (epoch_dark epoch fits, tt))
 answer_dark (answer.NoEntry cause) fits = (dark_by_test (codes "NONE") refl, cause_dark cause fits)
 answer_dark (answer.Begun version) fits = (dark_by_test (codes "BEGUN") refl, (version_dark version fits, tt))
 answer_dark (answer.Added count) fits = (dark_by_test (codes "ADDED") refl, (version_dark count fits, tt))

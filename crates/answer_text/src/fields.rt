@@ -41,12 +41,9 @@ pub fn fields_of(answer: &Answer) -> Fields<'_>
         Answer::ReadFault { bytes } => counted("FAULT", None, bytes),
         Answer::OtherUrl => named("OTHERURL"),
         Answer::Miss { cause } => caused("MISS", cause),
-        Answer::Purged { epoch } => [
-            Some(Field::Name("PURGED")),
-            Some(Field::of_epoch(*epoch)),
-            None,
-            None,
-        ],
+        Answer::Purged { epoch } => dated("PURGED", *epoch),
+        Answer::Wiped { epoch } => dated("WIPED", *epoch),
+        Answer::Later { epoch } => dated("LATER", *epoch),
         Answer::NoEntry { cause } => caused("NONE", cause),
         Answer::Begun { version } => numbered("BEGUN", u64::from(*version)),
         Answer::Added { count } => numbered("ADDED", u64::from(*count)),
@@ -74,6 +71,19 @@ fn numbered<'a>(name: &'static str, number: u64) -> Fields<'a>
     [
         Some(Field::Name(name)),
         Some(Field::Number(number)),
+        None,
+        None,
+    ]
+}
+
+/// A name and an epoch.
+fn dated<'a>(name: &'static str, epoch: Epoch) -> Fields<'a>
+    ensures words { field_words result ≡ name.now ∷ epoch_text epoch ∷ [] }
+    ensures in_range { IsEpoch epoch }
+{
+    [
+        Some(Field::Name(name)),
+        Some(Field::of_epoch(epoch)),
         None,
         None,
     ]

@@ -5,3 +5,4 @@ pub mod Made
 pub mod Plain
 pub mod Stations
 pub mod Refused
+pub mod Alone

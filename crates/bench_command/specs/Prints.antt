@@ -31,5 +31,5 @@ pub record IsBenchText (volume_tells : Bool) (files files_after : Files) (name :
   pub made : IsMade volume_tells files middle name workers
   -- and it is the line of a run over this file.
   pub line : IsLineOfRun volume_tells middle files_after name seed workers count (made_counts before) after text
-  -- With one worker whose station met no fault it is the one line of a plain store that was never written.
-  pub plain : workers ≡ 1 → IsTrue volume_tells → NoWorkerFailed before after → text ≡ plain_line seed count
+  -- Where no worker's station met a fault it is the one line of plain stores that were never written, of which each worker has its own.
+  pub plain : IsTrue volume_tells → NoWorkerFailed before after → text ≡ plain_line seed workers count

@@ -13,12 +13,14 @@ ghost use Rattle.bench_command.specs.Prints.{IsBenchText};
 ghost use Rattle.bench_command.specs.Stations.{BenchEnded, BenchFailed, BenchUnfailed};
 
 use crate::running::{BenchTarget, SLOT_BYTES, run_bench};
+use bench_laws::{bench_lines_are_private, bench_lines_fit, summaries_tell_no_versions};
 use db_layout::geometries_are_read_as_written;
 use file_commands::create_file;
 use plain_laws::unwritten_slots_open_fresh_stores;
 use rock_disk::{Volume, cutting_keeps_the_bytes};
 use rock_io::Sink;
 use rock_status::Status;
+use run_rules::scripts_fit_into_unwritten_files;
 use std::alloc::Global;
 use std::sync::Wait;
 use std::thread::Threads;
@@ -101,6 +103,10 @@ where
     cutting_keeps_the_bytes();
     geometries_are_read_as_written();
     unwritten_slots_open_fresh_stores();
+    scripts_fit_into_unwritten_files();
+    bench_lines_are_private();
+    bench_lines_fit();
+    summaries_tell_no_versions();
     if !is_workers(target.workers) {
         return Status::BadGeometry { field: 3 };
     }

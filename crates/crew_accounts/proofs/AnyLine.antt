@@ -6,7 +6,7 @@ use Rattle.script_text.specs.Tabs.{UsesTab}
 use Rattle.script_text.specs.declared.answer.Answer.{Answer}
 use Rattle.script_text.specs.declared.line.Line.{Line}
 use Rattle.script_text.specs.declared.request.Request.{Request}
-use Rattle.script_text.specs.declared.request.Request.TheVariants.{Add, Await, Begin, CloseTab, DropTab, End, Get, Mark, More, OpenTab, Purge, Put, Save}
+use Rattle.script_text.specs.declared.request.Request.TheVariants.{Add, Await, Begin, CloseTab, DropTab, End, Get, Mark, More, OpenTab, Purge, Put, Save, Wipe}
 use Rattle.line_account.specs.Lines.{Served}
 use Rattle.store_rule.specs.declared.store.Pass.{Pass}
 use Rattle.store_rule.specs.declared.store.Store.{Store}
@@ -28,7 +28,7 @@ use Rattle.crew_accounts.proofs.GetLines.{get_adds}
 use Rattle.crew_accounts.proofs.MoreLines.{more_adds}
 use Rattle.crew_accounts.proofs.Offering.{puts, saves}
 use Rattle.crew_accounts.proofs.OpenLines.{open_adds}
-use Rattle.crew_accounts.proofs.Purging.{purge_adds}
+use Rattle.crew_accounts.proofs.Purging.{purge_adds, wipe_adds}
 use Rattle.crew_accounts.proofs.PutLines.{put_adds, puts_whole, saves_whole}
 
 module _ {C O : Type 0} (tells : Bool) (state : C → CellState) (offers : O → Offers) (s : Store C O) (told : Bool) (past : Past) (served : List Served) (from : IsFromFront) (told_so : IsTrue told → IsTold (basis tells state offers s) told past tells) (worker number : ℕ) (p : Pass C) (a : Answer) (q : Pass C)
@@ -39,6 +39,7 @@ module _ {C O : Type 0} (tells : Bool) (state : C → CellState) (offers : O →
   by_request (Save url body) asks h leaves = put_adds tells state offers s told past served (line_with worker number (Save url body)) url body true p q a (saves url body) (saves_whole url body) tracks (leaves 7 refl) asks fit h
   by_request (Get url) asks h leaves = get_adds tells state offers s told past served worker number url p q from told_so a tracks (leaves 7 refl) fit h
   by_request (Purge url) asks h leaves = purge_adds tells state offers s told past served worker number url p q a tracks (leaves 7 refl) fit h
+  by_request (Wipe url) asks h leaves = wipe_adds tells state offers s told past served worker number url p q a tracks (leaves 7 refl) fit h
   by_request (Begin t url body) asks h leaves = begin_adds tells state offers s told past served worker number t url body p q asks.0 a tracks (leaves t refl) asks.1 fit h
   by_request (Add t count) asks h leaves = add_adds tells state offers s told past served worker number t count p q asks a tracks (leaves t refl) h
   by_request (End t) asks h leaves = end_adds tells state offers s told past served worker number t p q asks a tracks (leaves t refl) h

@@ -36,7 +36,7 @@ use Rattle.crew_accounts.proofs.Fitting.{on_free}
 use Rattle.crew_accounts.proofs.NotBegun.{not_begun, refusals_are_mute}
 use Rattle.crew_accounts.proofs.Offering.{begins, offering}
 use Rattle.crew_accounts.proofs.Running.{is_offered}
-use Rattle.crew_accounts.proofs.Shown.{begun_above, fresh_to, later_turn, shows_one}
+use Rattle.crew_accounts.proofs.Shown.{drawn_above, fresh_to, later_turn, shows_one}
 use Rattle.crew_accounts.proofs.Small.{begun_small}
 use Rattle.crew_accounts.proofs.TabLines.{elsewhere, mute, none_added, now_writes, reading_on, writing_on}
 use Rattle.crew_accounts.proofs.Telling.{tells_by}
@@ -60,12 +60,12 @@ module _ {C O : Type 0} (tells : Bool) (state : C → CellState) (offers : O →
     was_begun : (version : ℕ) → ((answer.Begun version ≡ answer.LongUrl) ↔ IsTooLong g url) → Began tells state offers s t offer url false p q version → AddsLine tells state offers s told past served line p (answer.Begun version) q
     was_begun version long b =
         let l = served_as line (answer.Begun version) (Some version) 0 0 in
-        let shows = shows_one r.setting.anchors (view p) (view q) served l url refl (epoch_at version 1) refl (later_turn (let later = begun_later b.took in omega arith) (fresh_to (begun_fresh b.took) (naming_keeps b.named))) in
+        let shows = shows_one r.setting.anchors (view p) (view q) served l url refl (epoch_at version 1) refl (later_turn (let later = begun_later b.took (anchor_for g url) in omega arith) (fresh_to (begun_fresh b.took) (naming_keeps b.named))) in
         record {
           drew = Some version;
           opened = 0;
           looked = 0;
-          adds = adds_drawing r (view p) (view q) served l (begun_above r.setting.anchors (view p) l url version refl (begun_later b.took) (λ x k. k))
+          adds = adds_drawing r (view p) (view q) served l (drawn_above r.setting.anchors l (view p).seen version refl (begun_later b.took))
               (OfBeginning (anchor_for g url) version) (began_acted tells state offers s t b)
               (λ d. of_beginning r (view q) served l d (anchor_for g url) version (record { anchor = record { url = url; named_is = refl; anchor = refl }; drew = refl; began = refl }))
               shows

@@ -1,7 +1,9 @@
 -- A line that begins an entry: what it found, and what it left.
-use Rattle.std.proofs.Common.{Bool, Contains, List, [], ap, arith, cond, eq-eqb, inl, inr, refl, subst, sum_by, sym, true, ◌++◌, ◌<◌, ◌≤◌, ◌==◌, ◌∙◌, ◌∷◌, ◌≡◌, ◌⊎◌, ℕ}
+use Rattle.std.proofs.Common.{Bool, Contains, List, [], ap, arith, cond, eq-eqb, inl, inr, refl, subst, sum_by, sym, true, ◌+◌, ◌++◌, ◌<◌, ◌≤◌, ◌==◌, ◌∙◌, ◌∷◌, ◌≡◌, ◌⊎◌, ℕ}
 use Rattle.std.proofs.lemmas.Bool.{lt-ltb}
 use Rattle.std.proofs.Common.{ltb}
+use Rattle.std.proofs.Math.Decide.{dec_le}
+use mathlib.Core.Logic.{dite}
 use Rattle.lock_word.specs.Words.{epoch_at, epoch_of, readers_of, version_of, word_at}
 use Rattle.lock_word.specs.declared.word.Word.{Word}
 use Rattle.lock_word.proofs.Parts.{readers_of-word_number}
@@ -9,7 +11,8 @@ use Rattle.lock_word.proofs.Taking.{epoch_of-word_at, rises}
 use Rattle.core_model.specs.Table.{left_by}
 use Rattle.core_model.specs.Tabs.{counts}
 use Rattle.core_model.specs.Trails.{last_find, seen_at}
-use Rattle.core_model.specs.declared.moves.Move.TheVariants.{Look, Take}
+use Rattle.core_model.specs.Sound.{AnchorsSound}
+use Rattle.core_model.specs.declared.moves.Move.TheVariants.{Draw, Look, Take}
 use Rattle.core_model.specs.declared.tab.Tab.{Tab}
 use Rattle.core_model.specs.declared.view.Sight.{Sight}
 use Rattle.core_model.specs.declared.view.Sight.TheVariants.{Stood}
@@ -23,7 +26,25 @@ use Rattle.rock_writer.specs.Beginning.{InUse, Overtaken, Took, TookAnchor, WasI
 use Rattle.store_serve.proofs.Anchors.{drew}
 use Rattle.store_serve.proofs.Grown.{by_step, on, same}
 use Rattle.store_serve.proofs.Slots.{freed}
-use Rattle.crew_accounts.proofs.Shown.{fresh_from, fresh_to}
+use Rattle.crew_accounts.proofs.Shown.{fresh_from, fresh_to, nothing_seen, seen_below}
+
+-- A version that is drawn is later than all that was seen, at whatever anchor.
+module _ {X : Type 0} {g : Ground X} where
+  -- the counter is not below the version of what was seen
+  counted_all : {v w : View X} {n : ℕ} → Steps g v Draw n w → (b : ℕ) → version_of (seen_at b v.seen) ≤ n
+  counted_all {v} {w} {n} st b = dite (dec_le g.setting.anchors b) outside (λ n. inside (omega arith))
+    where
+      so : AnchorsSound g.setting st.state
+      so = st.rule.sound.anchors
+
+      inside : b < g.setting.anchors → version_of (seen_at b v.seen) ≤ n
+      inside lt = let seen = so.seen.epochs st.index v st.at b lt in let stands = so.drawn.stand b lt in let is = st.found in omega arith
+
+      outside : g.setting.anchors ≤ b → version_of (seen_at b v.seen) ≤ n
+      outside far = let none = nothing_seen b v.seen (λ e h. let near = so.seen.inside st.index v st.at (Stood b e) h in omega arith) in omega arith
+
+  drawn_later : {u v w : View X} {n : ℕ} → GrowsTo u v → Steps g v Draw n w → (b : ℕ) → version_of (seen_at b u.seen) < n + 1
+  drawn_later {u} {v} keeps draws b = let counted = counted_all draws b in let before = seen_below b u.seen v.seen keeps.seen in omega arith
 
 module _ {X : Type 0} {g : Ground X} {t a : ℕ} {v : View X} where
   -- the word that was looked at is the last find still
@@ -60,14 +81,11 @@ module _ {X : Type 0} {g : Ground X} {t a : ℕ} {v : View X} where
   pub begun_fresh : {n version : ℕ} {w : View X} → Took g t a v n version w → IsFresh a (epoch_at version 1) v w
   begun_fresh h = fresh_to (fresh_from (on (by_step h.took.looks) (drew h.took.drew)) (took_fresh h.took)) (cleared h.cleared)
 
-  -- and later than all that was seen there
-  pub begun_later : {n version : ℕ} {w : View X} → Took g t a v n version w → version_of (seen_at a v.seen) < version
-  begun_later {n} {version} {w} h =
-      let found = (known_of g v (Look a) n h.took.seen h.took.looks).anchors.fresh in
-      let later = newer h.took in
-      let same = ap epoch_of (found_still h.took) in
-      let up : version_of (seen_at a v.seen) ≤ version_of (epoch_of n) = omega arith in
-      let is = ap version_of same in
+  -- and later than all that was seen, at whatever anchor
+  pub begun_later : {n version : ℕ} {w : View X} → Took g t a v n version w → (b : ℕ) → version_of (seen_at b v.seen) < version
+  begun_later {n} {version} {w} h b =
+      let later = drawn_later (on (by_step h.took.looks) (by_step h.took.drew.look)) h.took.drew.draw b in
+      let is = h.took.drew.version_is in
       omega arith
 
 -- Whom it met.
@@ -88,7 +106,7 @@ module _ {X : Type 0} {g : Ground X} {t a : ℕ} {v : View X} where
   in_use_met looked found w small h (inl more) = looked_met h.looks (let r = readers_of-word_number looked (omega arith) in omega arith)
   in_use_met looked found w small h (inr more) = looked_met h.looks (let r = readers_of-word_number looked (omega arith) in let e = ap Word.readers h.same in omega arith)
 
-  drawn_tabs : {looked found : Word} {w : View X} (h : Overtaken g t a v looked found w) → h.drawn.tabs ≡ v.tabs
+  pub drawn_tabs : {looked found : Word} {w : View X} (h : Overtaken g t a v looked found w) → h.drawn.tabs ≡ v.tabs
   drawn_tabs h = ap View.tabs h.drew.draw.leaves ∙ ap View.tabs h.drew.look.leaves ∙ ap View.tabs h.looks.leaves
 
   overtaken_met : (looked found : Word) (w : View X) → looked.readers < 65536 → found.readers < 65536 → Overtaken g t a v looked found w → (sum_by (counts a) v.tabs < looked.readers) ⊎ (sum_by (counts a) v.tabs < found.readers) → Contains w.met a

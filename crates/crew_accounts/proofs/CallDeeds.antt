@@ -1,5 +1,5 @@
 -- Which line the deeds of a call belong to.
-use Rattle.std.proofs.Common.{Contains, List, None, Some, ap, arith, false, inl, inr, refl, subst, sym, true, ⊎_elim, ◌∙◌, ◌<◌, ◌≡◌, ◌≤◌, ℕ}
+use Rattle.std.proofs.Common.{Contains, List, None, Some, ap, arith, false, inl, inr, refl, subst, sym, true, ℕ, ⊎_elim, ◌∙◌, ◌<◌, ◌≡◌, ◌≤◌, ◌⊎◌}
 use Rattle.std.specs.Prelude.{IsTrue, ◌↔◌}
 use Rattle.lock_word.specs.Words.{doom_of, epoch_number, version_of as version_in}
 use Rattle.lock_word.specs.declared.epoch.Epoch.{Epoch}
@@ -9,11 +9,10 @@ use Rattle.core_model.specs.declared.view.Deed.{Deed}
 use Rattle.core_model.specs.declared.view.Sight.{Sight}
 use Rattle.core_model.specs.declared.view.View.{View}
 use Rattle.line_account.specs.Lines.{Served}
-use Rattle.line_account.specs.Deeds.{Begins, ComesTo, Evicts, Finishes, Grows, Halts, IsDeedOf, PrintsBegunVersion, Purges}
+use Rattle.line_account.specs.Deeds.{Begins, ComesTo, Evicts, Finishes, Grows, Halts, IsDeedOf, Purges, WipesInVain}
 use Rattle.line_account.specs.Answers.{HasPart, Run}
 use Rattle.line_account.specs.Accounts.{Shows, Tells}
 use Rattle.line_account.specs.Courses.{Adds}
-use Rattle.line_account.proofs.Versions.{told_began}
 use Rattle.store_rule.specs.Ground.{Ground, fits}
 use Rattle.rock_writer.specs.declared.fault.Ended.{Ended}
 use Rattle.rock_writer.specs.declared.fault.Ended.TheVariants.{Doomed, Stored}
@@ -45,9 +44,11 @@ module _ {X : Type 0} (r : Run X) (v : View X) (earlier : List Served) (s : Serv
   of_visiting a comes (inl h) = deed.entered r v earlier s d h.kind (subst (ComesTo r.setting.anchors s.asked.request) (sym h.anchor) comes)
   of_visiting a comes (inr h) = of_leaving h
 
-  pub of_purging : (a epoch : ℕ) → ComesTo r.setting.anchors s.asked.request a → Purges r.setting.anchors s a epoch → OfPurging a epoch d → IsDeedOf r v d earlier s
-  of_purging a epoch comes purges (inl h) = deed.doomed r v earlier s d h.kind h.doomed
-      (subst (λ b. Purges r.setting.anchors s b d.epoch) (sym h.anchor) (subst (Purges r.setting.anchors s a) (sym h.epoch_is) purges))
+  pub of_purging : (a epoch : ℕ) → ComesTo r.setting.anchors s.asked.request a → Purges r.setting.anchors s a epoch ⊎ WipesInVain r.setting.anchors s a → OfPurging a epoch d → IsDeedOf r v d earlier s
+  of_purging a epoch comes purges (inl h) = deed.doomed r v earlier s d h.kind h.doomed (⊎_elim
+      (λ (p : Purges r.setting.anchors s a epoch). inl (subst (λ b. Purges r.setting.anchors s b d.epoch) (sym h.anchor) (subst (Purges r.setting.anchors s a) (sym h.epoch_is) p)))
+      (λ (p : WipesInVain r.setting.anchors s a). inr (subst (λ b. WipesInVain r.setting.anchors s b) (sym h.anchor) p))
+      purges)
   of_purging a epoch comes purges (inr h) = of_visiting a comes h
 
   pub of_beginning : (a version : ℕ) → Begins r.setting.anchors s a version → OfBeginning a version d → IsDeedOf r v d earlier s
@@ -100,7 +101,7 @@ module _ {X : Type 0} (r : Run X) (v : View X) (earlier : List Served) (s : Serv
 
 -- A line adds what its call drew and did, with what it tells.
 module _ {X : Type 0} (r : Run X) (v w : View X) (earlier : List Served) (s : Served) where
-  pub adds_drawing : ((a x : ℕ) → PrintsBegunVersion r.setting.anchors s a x → version_in (seen_at a v.seen) < x) → (P : Deed → Type 0) → Acted s.drew P v w → ((d : Deed) → P d → IsDeedOf r w d earlier s)
+  pub adds_drawing : ((a b x : ℕ) → Begins r.setting.anchors s a x → version_in (seen_at b v.seen) < x) → (P : Deed → Type 0) → Acted s.drew P v w → ((d : Deed) → P d → IsDeedOf r w d earlier s)
       → ShowsInTurn r.setting.anchors v w earlier s → Tells r w earlier s
       → (IsTrue r.tells → (e : Epoch) (bytes : List ℕ) → s.answer ≡ answer.Part e bytes → HasPart r v w earlier s (epoch_number e)) → Adds r v earlier s w
   adds_drawing above P acted so shows tells parts = record {
@@ -119,5 +120,5 @@ module _ {X : Type 0} (r : Run X) (v w : View X) (earlier : List Served) (s : Se
   pub adds_by : s.drew ≡ None → (P : Deed → Type 0) → Acted s.drew P v w → ((d : Deed) → P d → IsDeedOf r w d earlier s) → ShowsInTurn r.setting.anchors v w earlier s → Tells r w earlier s
       → (IsTrue r.tells → (e : Epoch) (bytes : List ℕ) → s.answer ≡ answer.Part e bytes → HasPart r v w earlier s (epoch_number e)) → Adds r v earlier s w
   adds_by none P acted so shows tells parts = adds_drawing
-      (λ a x h. let began = tells.began x (told_began s.asked.request s.answer x h.told) in let z : None ≡ Some began.version = sym none ∙ began.drew in absurd (let q : ⊥ = cc in q))
+      (λ a b x h. let z : None ≡ Some x = sym none ∙ h.drew in absurd (let q : ⊥ = cc in q))
       P acted so shows tells parts

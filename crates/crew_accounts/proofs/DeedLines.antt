@@ -5,7 +5,7 @@ use Rattle.core_model.specs.declared.view.Deed.{Deed}
 use Rattle.core_model.specs.declared.view.Kind.TheVariants.{Changed, Doomed, Entered, Raised}
 use Rattle.core_model.specs.declared.view.View.{View}
 use Rattle.line_account.specs.Lines.{Served}
-use Rattle.line_account.specs.Deeds.{Begins, ComesTo, Evicts, Finishes, Grows, Halts, IsDeedOf, Purges}
+use Rattle.line_account.specs.Deeds.{Begins, ComesTo, Evicts, Finishes, Grows, Halts, IsDeedOf, Purges, WipesInVain}
 use Rattle.line_account.specs.Answers.{Run}
 
 module _ {X : Type 0} (r : Run X) (v : View X) (earlier : List Served) (s : Served) (d : Deed) where
@@ -83,7 +83,7 @@ module _ {X : Type 0} (r : Run X) (v : View X) (earlier : List Served) (s : Serv
   pub closed : (x : ℕ) → d.kind ≡ Raised → stage_of d.epoch ≡ 3 → version_of d.epoch ≡ x → Grows r.setting v earlier s d.anchor x → Finishes s.answer d.epoch → IsDeedOf r v d earlier s
   closed x e three same grows finishes = raised e (λ st. subst (Grows r.setting v earlier s d.anchor) (sym same) grows) (λ st. finishes) (λ st. absurd (omega arith))
 
-  pub doomed : d.kind ≡ Doomed → doom_of d.epoch ≡ 1 → Purges r.setting.anchors s d.anchor d.epoch → IsDeedOf r v d earlier s
+  pub doomed : d.kind ≡ Doomed → doom_of d.epoch ≡ 1 → Purges r.setting.anchors s d.anchor d.epoch ⊎ WipesInVain r.setting.anchors s d.anchor → IsDeedOf r v d earlier s
   doomed e one purges = record {
     entered = λ k. absurd (let z : Doomed ≡ Entered = sym e ∙ k in cc);
     changed = λ k. absurd (let z : Doomed ≡ Changed = sym e ∙ k in cc);

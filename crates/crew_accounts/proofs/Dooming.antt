@@ -25,12 +25,11 @@ use Rattle.script_text.specs.Requests.{url_in}
 use Rattle.line_account.specs.Lines.{Served}
 use Rattle.store_rule.specs.Ground.{Ground, anchor_for}
 use Rattle.store_rule.specs.Told.{Steps}
-use Rattle.purge_entry.specs.Purging.{Purged}
 use Rattle.rock_reader.specs.Opening.{opened}
 use Rattle.rock_reader.proofs.Coming.{readable_is, step_sees}
-use Rattle.store_serve.proofs.Readers as readers
 use Rattle.crew_accounts.specs.Runs.{Past, run_of}
 use Rattle.crew_accounts.proofs.Coming.{came_reads}
+use Rattle.crew_accounts.proofs.Doomed.{HasDoomed}
 use Rattle.crew_accounts.proofs.Loading.{HasLoaded, back_loaded, front_loaded}
 
 -- An entry that a tab reads is at APPENDING, CLOSED or HALTED when it is doomed.
@@ -48,7 +47,7 @@ module _ {X : Type 0} (g : Ground X) (v w : View X) (t n : ℕ) (r : Reader X) (
       let same = stage_of-doomed n ∙ ap (λ (m : ℕ). stage_of (epoch_of m)) word_is in
       (omega arith, omega arith)
 
-module _ (g : Ground (List ℕ)) (told : Bool) (past : Past) (url : List ℕ) (v w : View (List ℕ)) (t : ℕ) (left : Epoch) (h : Purged g t url v left w) where
+module _ (g : Ground (List ℕ)) (told : Bool) (past : Past) (url : List ℕ) (v w : View (List ℕ)) (t : ℕ) (left : Epoch) (h : HasDoomed g t url v left w) where
   abbrev anchor : ℕ
   anchor = anchor_for g url
 
@@ -59,14 +58,14 @@ module _ (g : Ground (List ℕ)) (told : Bool) (past : Past) (url : List ℕ) (v
   came = came_reads g v h.entered t anchor h.came.found h.epoch h.came.enter h.came.epoch_is h.readable
 
   -- what was seen once the key was loaded is seen at the end
-  keeps : (x : Sight) → Contains h.entry.keyed.seen x → Contains w.seen x
-  keeps x c = (readers.parted g t h.entry.after w h.entry.parted).seen x (step_sees g h.entry.keyed h.entry.after (Doom t) h.entry.word x h.entry.doom c)
+  keeps : (x : Sight) → Contains h.keyed.seen x → Contains w.seen x
+  keeps x c = h.known.seen x (step_sees g h.keyed h.after (Doom t) h.word x h.doom c)
 
-  front : HasLoaded g.setting r Key0 (front_half (key_of url)) h.entry.keyed.seen
-  front = front_loaded g h.entered h.entry.keyed t r came (key_of url) h.entry.key
+  front : HasLoaded g.setting r Key0 (front_half (key_of url)) h.keyed.seen
+  front = front_loaded g h.entered h.keyed t r came (key_of url) h.key
 
-  back : HasLoaded g.setting r Key1 (back_half (key_of url)) h.entry.keyed.seen
-  back = back_loaded g h.entered h.entry.keyed t r came (key_of url) h.entry.key
+  back : HasLoaded g.setting r Key1 (back_half (key_of url)) h.keyed.seen
+  back = back_loaded g h.entered h.keyed t r came (key_of url) h.key
 
   keyed : IsKeyRead (run_of g told past) w anchor (epoch_number h.epoch) (key_of url)
   keyed = let same = version_of-epoch_number h.epoch in record {
@@ -81,7 +80,7 @@ module _ (g : Ground (List ℕ)) (told : Bool) (past : Past) (url : List ℕ) (v
   }
 
   stage : (2 ≤ stage_of (epoch_number left)) × (stage_of (epoch_number left) ≤ 4)
-  stage = subst (λ (e : ℕ). (2 ≤ stage_of e) × (stage_of e ≤ 4)) (sym h.entry.left_is) (doom_stage g h.entry.keyed h.entry.after t h.entry.word r h.entry.reads h.entry.doom)
+  stage = subst (λ (e : ℕ). (2 ≤ stage_of e) × (stage_of e ≤ 4)) (sym h.left_is) (doom_stage g h.keyed h.after t h.word r h.reads h.doom)
 
   pub has_purged : (l : Served) → url_in l.asked.request ≡ Some url → l.opened ≡ epoch_number h.epoch → HasPurged (run_of g told past) w l left
   has_purged l named found = record {

@@ -5,7 +5,7 @@ use Rattle.core_model.specs.declared.view.View.{View}
 use Rattle.entry_cut.specs.Content.{room_of}
 use Rattle.line_account.specs.Accounts.{HasFinished, HasGivenUp, epochs_of}
 use Rattle.line_account.specs.Answers.{IsLarge, IsSmall, Run}
-use Rattle.line_account.specs.Deeds.{MayEvict}
+use Rattle.line_account.specs.Deeds.{NeededSlots}
 use Rattle.line_account.specs.Lines.{Served, begun_by, gives_up, is_finished, is_refused}
 use Rattle.lock_word.specs.Words.{epoch_at}
 use Rattle.lock_word.specs.declared.epoch.Epoch.{Epoch}
@@ -46,12 +46,12 @@ ends_fault Full = refl
 ends_fault Fault = refl
 
 -- a line that was answered so came so far that it needed slots
-pub fault_evicts : (fault : WriteFault) → MayEvict (answer_to_fault fault)
+pub fault_evicts : (fault : WriteFault) → NeededSlots (answer_to_fault fault)
 fault_evicts Large = tt
 fault_evicts Full = tt
 fault_evicts Fault = tt
 
-pub ended_evicts : (ended : Ended) → MayEvict (answer_to_ended ended)
+pub ended_evicts : (ended : Ended) → NeededSlots (answer_to_ended ended)
 ended_evicts (Stored x) = tt
 ended_evicts (Doomed x) = tt
 
@@ -91,7 +91,7 @@ module _ {X : Type 0} (r : Run X) (v : View X) (earlier : List Served) (s : Serv
   pub fault_told : (fault : WriteFault) → HasGivenUp r.setting.anchors v earlier s → (fault ≡ Full → r.fits ≡ false) → (answer_to_fault fault ≡ answer.Large → IsLarge r earlier s) → ToTell r v earlier s (answer_to_fault fault)
   fault_told Large up unfit large = (up, large refl)
   fault_told Full up unfit large = (up, unfit refl)
-  fault_told Fault up unfit large = up
+  fault_told Fault up unfit large = λ writes. up
 
   pub ended_told : (ended : Ended) → HasFinished r.setting v earlier s (version_of ended) → IsSmall r earlier s → ToTell r v earlier s (answer_to_ended ended)
   ended_told (Stored x) h small = (h, small)

@@ -2,6 +2,7 @@ pub mod Telling
 pub mod DeedLines
 pub mod TabLines
 pub mod Shown
+pub mod Doomed
 pub mod Turns
 pub mod Tracking
 pub mod CallDeeds
@@ -26,6 +27,7 @@ pub mod Coming
 pub mod Purging
 pub mod Readers
 pub mod Beginning
+mod ReadersFound
 pub mod Offering
 pub mod NotBegun
 pub mod BeginLines

@@ -10,13 +10,14 @@ use Rattle.script_text.specs.declared.body.Body.{Body}
 use Rattle.script_text.specs.declared.line.Line.{Line}
 use Rattle.core_model.specs.Tabs.{counts}
 use Rattle.core_model.specs.declared.view.Kind.TheVariants.{Counted, Drew}
-use Rattle.line_account.specs.Answers.{IsHeld, IsOvertaken, IsSpent, Run, readers_at}
+use Rattle.line_account.specs.Answers.{AreCounted, IsHeld, IsOvertaken, IsSpent, Run, readers_at}
 use Rattle.line_account.specs.Courses.{Adds}
 use Rattle.line_account.specs.Lines.{Fits, Served}
 use Rattle.store_rule.specs.declared.store.Pass.{Pass}
 use Rattle.store_rule.specs.declared.store.Store.{Store}
 use Rattle.store_rule.specs.Ground.{Ground, Offers, anchor_for}
 use Rattle.store_rule.specs.Passes.{basis, view}
+use Rattle.store_rule.proofs.Passing.{pass_of}
 use Rattle.rock_writer.specs.Beginning.{AreFresh, InUse, IsTooLong, NotTaken, Overtaken}
 use Rattle.rock_writer.specs.declared.fault.BeginFault.{BeginFault}
 use Rattle.rock_writer.specs.declared.fault.BeginFault.TheVariants.{Busy, LongUrl, Spent}
@@ -32,9 +33,9 @@ use Rattle.crew_accounts.specs.Runs.{Past, run_of}
 use Rattle.crew_accounts.specs.Tracks.{Tracks}
 use Rattle.crew_accounts.proofs.Beginning.{busy_met}
 use Rattle.crew_accounts.proofs.CallDeeds.{adds_drawing, adds_by}
-use Rattle.line_account.proofs.Versions.{told_began}
 use Rattle.crew_accounts.proofs.Offering.{IsOffering, offering}
-use Rattle.crew_accounts.proofs.Readers.{readers_few}
+use Rattle.crew_accounts.proofs.Readers.{readers_are}
+use Rattle.crew_accounts.proofs.ReadersFound.{busy_counted}
 use Rattle.crew_accounts.proofs.Shown.{anchor_at, shows_none, shows_two}
 use Rattle.crew_accounts.proofs.TabLines.{IsMute}
 use Rattle.crew_accounts.proofs.Telling.{tells_by}
@@ -81,10 +82,10 @@ module _ {C O : Type 0} (tells : Bool) (state : C → CellState) (offers : O →
           let l = served_as line (answer.Busy looked found) drew 0 0 in
           let shows = shows_two r.setting.anchors (view p) (view q) served l url (is.at served) (epoch_number looked.epoch) (epoch_number found.epoch) refl
           (looked_turn g t (anchor_for g url) (view p) looked found (view q) small low how fresh) (found_turn g t (anchor_for g url) (view p) looked found (view q) small low how fresh) in
-          let few = readers_few tells state offers s told past served p tracks (anchor_for g url) in
+          let few = readers_are tells state offers s told past served p tracks (anchor_for g url) in
           record {
             drew = drew;
-            adds = adds_drawing r (view p) (view q) served l (λ b x k. absurd (is.not_busy looked found x (told_began line.request (answer.Busy looked found) x k.told)))
+            adds = adds_drawing r (view p) (view q) served l (λ b c x k. absurd (is.not_busy looked found x k.began))
                 NoDeed acted (λ d h. absurd h) shows
                 (tells_by r (view q) served l
                 (record {
@@ -97,6 +98,9 @@ module _ {C O : Type 0} (tells : Bool) (state : C → CellState) (offers : O →
                       (λ (m : readers_at r.setting.anchors served (anchor_for g url) < looked.readers). inl (omega arith))
                       (λ (m : readers_at r.setting.anchors served (anchor_for g url) < found.readers). inr (omega arith))
                       (subst (λ (c : ℕ). (readers_at r.setting.anchors served c < looked.readers) ⊎ (readers_at r.setting.anchors served c < found.readers)) (sym here) more)));
+                  counted = λ b at. subst (λ (c : ℕ). AreCounted r.setting.passes (readers_at r.setting.anchors served c) looked.readers × AreCounted r.setting.passes (readers_at r.setting.anchors served c) found.readers)
+                      (anchor_at r.setting.anchors _ url b (is.at served) at)
+                      (subst (λ (c : ℕ). AreCounted r.setting.passes c looked.readers × AreCounted r.setting.passes c found.readers) few (busy_counted g t (anchor_for g url) (view p) (pass_of p) looked found small low (view q) how));
                 })
                 (offering tells state offers s told past served (view q) l url body is body_is long (λ b e k. (shows b e k).seen) (is.busy looked found) (λ x k. absurd (is.not_busy looked found x k)) fits (λ z. cc)))
                 (λ y e bytes z. absurd (let k : answer.Busy looked found ≡ answer.Part e bytes = z in cc));
@@ -109,7 +113,7 @@ module _ {C O : Type 0} (tells : Bool) (state : C → CellState) (offers : O →
           let none = shows_none r.setting.anchors (view p) (view q) served l refl in
           record {
             drew = drew;
-            adds = adds_drawing r (view p) (view q) served l (λ b x k. absurd (is.not_spent versions x (told_began line.request (answer.Spent versions) x k.told)))
+            adds = adds_drawing r (view p) (view q) served l (λ b c x k. absurd (is.not_spent versions x k.began))
                 NoDeed acted (λ d h. absurd h) none
                 (tells_by r (view q) served l so
                 (offering tells state offers s told past served (view q) l url body is body_is long (λ b e k. (none b e k).seen) (is.spent versions) (λ x k. absurd (is.not_spent versions x k)) fits (λ z. cc)))

@@ -11,7 +11,7 @@ use Rattle.script_text.specs.declared.request.Request.{Request}
 use Rattle.script_text.specs.declared.request.Request.TheVariants.{Put, Save}
 use Rattle.line_account.specs.Accounts.{HasFinished}
 use Rattle.line_account.specs.Answers.{Run}
-use Rattle.line_account.specs.Deeds.{Began, Grows, TellsBegun}
+use Rattle.line_account.specs.Deeds.{Began, Grows, MayEvict, NeededSlots}
 use Rattle.line_account.specs.Lines.{Fits, Served}
 use Rattle.line_account.specs.Requests.{IsAnswerTo}
 use Rattle.store_rule.specs.declared.store.Pass.{Pass}
@@ -47,7 +47,7 @@ use Rattle.crew_accounts.proofs.GivingUp.{closed_epoch, ended_evicts, ended_no_p
 use Rattle.crew_accounts.proofs.Halting.{gave_up_seen}
 use Rattle.crew_accounts.proofs.NotBegun.{not_begun}
 use Rattle.crew_accounts.proofs.Offering.{IsOffering, offering}
-use Rattle.crew_accounts.proofs.Shown.{begun_above, fresh_from, later_turn, shows_none, shows_one}
+use Rattle.crew_accounts.proofs.Shown.{drawn_above, fresh_from, later_turn, shows_none, shows_one}
 use Rattle.crew_accounts.proofs.TabLines.{LeavesAlone, put_alone, save_alone}
 use Rattle.crew_accounts.proofs.Telling.{tells_by}
 use Rattle.crew_accounts.proofs.Small.{begun_small, ended_small}
@@ -62,9 +62,8 @@ pub record IsPutting (request : Request) : Type 0 where
   pub fault : (fault : WriteFault) → IsAnswerTo request (answer_to_fault fault)
   pub began_ended : (ended : Ended) → Began request (answer_to_ended ended) (version_of ended)
   pub began_fault : (fault : WriteFault) (x : ℕ) → Began request (answer_to_fault fault) x
-  pub told_ended : (ended : Ended) (x : ℕ) → TellsBegun request (answer_to_ended ended) x → version_of ended ≡ x
-  pub told_fault : (fault : WriteFault) (x : ℕ) → TellsBegun request (answer_to_fault fault) x → ⊥
   pub fits : (earlier : List Served) → Fits earlier request
+  pub evicts : (a : Answer) → NeededSlots a → MayEvict request a
   pub alone : (a : Answer) (j : ℕ) → LeavesAlone j request a
 
 -- what was stored was not too long
@@ -91,20 +90,11 @@ module _ (url : List ℕ) (body : Body) where
   put_gave_up Full x = tt
   put_gave_up Fault x = tt
 
-  put_told : (ended : Ended) (x : ℕ) → TellsBegun (Put url body) (answer_to_ended ended) x → version_of ended ≡ x
-  put_told (Stored y) x h = h
-  put_told (Doomed y) x h = h
-
-  put_told_none : (fault : WriteFault) (x : ℕ) → TellsBegun (Put url body) (answer_to_fault fault) x → ⊥
-  put_told_none Large x h = h
-  put_told_none Full x h = h
-  put_told_none Fault x h = h
-
   pub puts_whole : IsPutting (Put url body)
-  puts_whole = record { ended = put_ended; fault = put_fault; began_ended = put_began; began_fault = put_gave_up; told_ended = put_told; told_fault = put_told_none; fits = λ earlier. tt; alone = put_alone url body }
+  puts_whole = record { ended = put_ended; fault = put_fault; began_ended = put_began; began_fault = put_gave_up; fits = λ earlier. tt; evicts = λ a h. h; alone = put_alone url body }
 
   pub saves_whole : IsPutting (Save url body)
-  saves_whole = record { ended = put_ended; fault = put_fault; began_ended = put_began; began_fault = put_gave_up; told_ended = put_told; told_fault = put_told_none; fits = λ earlier. tt; alone = save_alone url body }
+  saves_whole = record { ended = put_ended; fault = put_fault; began_ended = put_began; began_fault = put_gave_up; fits = λ earlier. tt; evicts = λ a h. h; alone = save_alone url body }
 
 module _ {C O : Type 0} (tells : Bool) (state : C → CellState) (offers : O → Offers) (s : Store C O) (told : Bool) (past : Past) (served : List Served) (line : Line) (url : List ℕ) (body : Body) (durable : Bool) (p q : Pass C) where
   abbrev g : Ground (List ℕ)
@@ -138,7 +128,7 @@ module _ {C O : Type 0} (tells : Bool) (state : C → CellState) (offers : O →
         let its : Grows g.setting (view q) served l e.anchor x = grows g e l first served l begun_is (view q) names in
         let fresh : IsFresh (anchor_for g url) (closed_epoch ended) (view p) (view q) = fresh_from (began tells state offers s whole_tab k.began) (ended_fresh tells state offers s whole_tab e0 k.middle q ended k.ends) in
         let shows = shows_one r.setting.anchors (view p) (view q) served l url (is.at served) (closed_epoch ended) (shows_closed ended)
-        (later_turn (let later = begun_later k.began.took in let same = ended_version tells state offers s whole_tab e0 k.middle q ended k.ends in let its = closed_version ended in omega arith) fresh) in
+        (later_turn (let later = begun_later k.began.took (anchor_for g url) in let same = ended_version tells state offers s whole_tab e0 k.middle q ended k.ends in let its = closed_version ended in omega arith) fresh) in
         let finished : HasFinished r.setting (view q) served l x = record { anchor = e.anchor; grows = its } in
         let small = ended_small tells state offers s whole_tab e0 k.middle q ended k.ends (begun_small g e0 url body_is.url_is refl (λ far. not_long ended (long.1 far))) in
         record {
@@ -146,10 +136,10 @@ module _ {C O : Type 0} (tells : Bool) (state : C → CellState) (offers : O →
           opened = 0;
           looked = 0;
           adds = adds_drawing r (view p) (view q) served l
-              (begun_above r.setting.anchors (view p) l url x is.named (let later = begun_later k.began.took in let same = ended_version tells state offers s whole_tab e0 k.middle q ended k.ends in omega arith) (putting.told_ended ended))
+              (drawn_above r.setting.anchors l (view p).seen x refl (λ b. let later = begun_later k.began.took b in let same = ended_version tells state offers s whole_tab e0 k.middle q ended k.ends in omega arith))
               (OfPutting g (name_of g e) (view q).seen ended)
               (serving.put tells state offers s whole_tab offer url durable p q k)
-              (λ d. of_putting r (view q) served l d g (λ unfit. record { may = ended_evicts ended; wants = unfit }) (name_of g e) (view q).seen ended
+              (λ d. of_putting r (view q) served l d g (λ unfit. record { may = putting.evicts (answer_to_ended ended) (ended_evicts ended); wants = unfit }) (name_of g e) (view q).seen ended
               (record { anchor = record { url = url; named_is = is.named; anchor = refl }; drew = refl; began = putting.began_ended ended })
               (grows g e l first served l begun_is (view q)) refl)
               shows
@@ -176,9 +166,9 @@ module _ {C O : Type 0} (tells : Bool) (state : C → CellState) (offers : O →
           drew = Some x;
           opened = 0;
           looked = 0;
-          adds = adds_drawing r (view p) (view q) served l (λ b y h. absurd (putting.told_fault fault y h.told)) (OfPuttingInVain g (name_of g e) (view q).seen)
+          adds = adds_drawing r (view p) (view q) served l (drawn_above r.setting.anchors l (view p).seen x refl (begun_later k.began.took)) (OfPuttingInVain g (name_of g e) (view q).seen)
               (serving.gave_up tells state offers s whole_tab offer url durable p q k)
-              (λ d. of_putting_in_vain r (view q) served l d g (λ unfit. record { may = fault_evicts fault; wants = unfit }) (name_of g e) (view q).seen
+              (λ d. of_putting_in_vain r (view q) served l d g (λ unfit. record { may = putting.evicts (answer_to_fault fault) (fault_evicts fault); wants = unfit }) (name_of g e) (view q).seen
               (record { anchor = record { url = url; named_is = is.named; anchor = refl }; drew = refl; began = putting.began_fault fault x })
               (grows g e l first served l begun_is (view q)) (halts g e l first served l begun_is (gives_up_fault fault)))
               none

@@ -2,21 +2,22 @@
 use Rattle.std.proofs.Common.{Bool, Contains, Err, List, Ok, Result, [], ap, inl, inr, refl, subst, suc, sym, true, zero, ◌+◌, ◌∙◌, ◌∷◌, ◌≡◌, ◌⊎◌, ℕ}
 use Rattle.std.specs.Result.{IfOk}
 use Rattle.std.proofs.lemmas.List.Elements.{Contains-append_right}
+use Rattle.lock_word.specs.declared.epoch.Epoch.{Epoch}
 use Rattle.rock_disk.specs.Cell.{CellState}
 use Rattle.script_text.specs.declared.answer.Answer.{Answer}
 use Rattle.script_text.specs.declared.answer.Answer.TheVariants as answer
 use Rattle.script_text.specs.declared.body.Body.{Body}
 use Rattle.script_text.specs.declared.line.Line.{Line}
 use Rattle.script_text.specs.declared.request.Request.{Request}
-use Rattle.script_text.specs.declared.request.Request.TheVariants.{Await, Mark, Save}
+use Rattle.script_text.specs.declared.request.Request.TheVariants.{Await, Mark, Save, Wipe}
 use Rattle.core_model.specs.declared.view.Sight.{Sight}
-use Rattle.core_model.specs.declared.view.Sight.TheVariants.{Logged, Named, Published}
+use Rattle.core_model.specs.declared.view.Sight.TheVariants.{Logged, Named, Published, Wiped as WipedSight}
 use Rattle.core_model.specs.declared.moves.Side.TheVariants.{Offer}
 use Rattle.core_model.specs.declared.view.View.{View}
 use Rattle.core_model.proofs.Lists.{cons_contains, contains_none}
 use Rattle.store_rule.specs.declared.store.Pass.{Pass}
 use Rattle.store_rule.specs.declared.store.Store.{Store}
-use Rattle.store_rule.specs.Ground.{Ground, Offers}
+use Rattle.store_rule.specs.Ground.{Ground, Offers, anchor_for}
 use Rattle.store_rule.specs.Passes.{basis, view}
 use Rattle.worker_pool.specs.Courses.{IsServed, Linked, Stage}
 use Rattle.worker_pool.specs.Running.{Account}
@@ -26,16 +27,21 @@ use Rattle.rock_writer.specs.declared.fault.BeginFault.TheVariants.{Busy, LongUr
 use Rattle.rock_writer.specs.declared.fault.Ended.{Ended}
 use Rattle.rock_writer.specs.declared.fault.Ended.TheVariants.{Doomed, Stored}
 use Rattle.rock_writer.specs.declared.fault.WriteFault.TheVariants.{Fault, Full, Large}
+use Rattle.purge_entry.specs.Wiping.{WipedTells}
+use Rattle.purge_entry.specs.declared.wiping.Wiped.{Wiped}
+use Rattle.purge_entry.specs.declared.wiping.Wiped.TheVariants.{Gone, Later}
+use Rattle.purge_entry.specs.declared.wiping.WipeFault.{WipeFault}
+use Rattle.purge_entry.specs.declared.wiping.WipeFault.TheVariants.{NoEntry}
 use Rattle.store_serve.specs.Storing.{put_as}
 use Rattle.store_serve.specs.declared.storing.PutFault.{PutFault}
 use Rattle.store_serve.specs.declared.storing.PutFault.TheVariants as put
-use Rattle.store_serve.specs.Answers.{answer_to_put}
+use Rattle.store_serve.specs.Answers.{answer_to_put, answer_to_wipe}
 use Rattle.store_serve.specs.Serving.{MayAsk, ServesRequest, offer_of}
 use Rattle.store_serve.specs.Tabs.{IsOffered}
-use Rattle.store_serve.specs.Whole.{Puts, whole_tab}
+use Rattle.store_serve.specs.Whole.{Puts, Wipes, whole_tab}
 use Rattle.worker_shelf.specs.Shelves.{LeftBelow, OnShelf, Went}
 use Rattle.worker_shelf.specs.Playing.{IsPlayed, IsStep, StepOn}
-use Rattle.crew_accounts.specs.Saved.{saved_as}
+use Rattle.crew_accounts.specs.Saved.{HasWiped, saved_as}
 use Rattle.crew_accounts.proofs.CrewLists.{behind, first}
 use Rattle.crew_accounts.proofs.ScriptLines.{in_script}
 use Rattle.crew_accounts.proofs.Stored.{asked}
@@ -151,3 +157,32 @@ module _ {C O St : Type 0} (tells : Bool) (state : C → CellState) (offers : O 
         let served = subst IsServed (sym is) tt in
         asked tells state offers s x.line.number (Save url body) url body (refl, refl)
         (subst (MayAsk tells state offers s x.line.number) is (h.takes x.line own.0 own.1 served).asks)
+
+  -- A line that was answered WIPED saw that the first slot was wiped.
+  wiped_there : (g : Ground (List ℕ)) (url : List ℕ) (v w : View (List ℕ)) (a : Answer) (epoch : Epoch) (outcome : Result Wiped WipeFault) → a ≡ answer_to_wipe outcome → a ≡ answer.Wiped epoch → IfOk outcome (WipedTells g url v w)
+      → HasWiped w (anchor_for g url) epoch.version
+  wiped_there g url v w a epoch (Ok (Gone left)) e wiped h =
+      let same : answer.Wiped left ≡ answer.Wiped epoch = sym e ∙ wiped in
+      let is : left ≡ epoch = cc in
+      record {
+        slot = h.entry.ends.wiped.slot;
+        seen = subst (λ (n : ℕ). Contains w.seen (WipedSight (anchor_for g url) n h.entry.ends.wiped.slot)) (sym h.version_is ∙ ap Epoch.version is) (h.entry.seen refl);
+      }
+  wiped_there g url v w a epoch (Ok (Later left)) e wiped h = absurd (let same : answer.Later left ≡ answer.Wiped epoch = sym e ∙ wiped in cc)
+  wiped_there g url v w a epoch (Err (NoEntry cause)) e wiped h = absurd (let same : answer.NoEntry cause ≡ answer.Wiped epoch = sym e ∙ wiped in cc)
+  wiped_there g url v w a epoch (Err WipeFault.Fault) e wiped h = absurd (let same : answer.Fault ≡ answer.Wiped epoch = sym e ∙ wiped in cc)
+
+  module _ (s : Store C O) (script : List Line) (w : ℕ) (a : Account (OnShelf C O St)) (x : Stage (OnShelf C O St)) (url : List ℕ) (epoch : Epoch) where
+    wiped_at_line : x.before.store ≡ s → IsStep tells state offers faults x → x.line.request ≡ Wipe url → x.answer ≡ answer.Wiped epoch → HasWiped (view x.after.pass) (anchor_for (basis tells state offers s) url) epoch.version
+    wiped_at_line store step is wiped =
+        let went = subst (λ (r : Request). StepOn tells state offers faults r x.before x.line x.answer x.after) is step in
+        let wipes = subst (λ (z : Store C O). Wipes tells state offers z url x.before.pass x.answer x.after.pass) store
+        (subst (ServesRequest tells state offers x.before.store x.line.number x.before.pass x.answer x.after.pass) is went.serves.request) in
+        wiped_there (basis tells state offers s) url (view x.before.pass) (view x.after.pass) x.answer epoch wipes.outcome wipes.answer_is wiped wipes.wiped
+
+    pub stay_wiped : IsPlayed tells state offers faults s script w a → Contains a.stages x → x.line.request ≡ Wipe url → x.answer ≡ answer.Wiped epoch → HasWiped (view a.end.pass) (anchor_for (basis tells state offers s) url) epoch.version
+    stay_wiped h among is wiped =
+        let has = h.has_steps in
+        let b = between a.stages a.start a.last has.linked has.steps x among in
+        let there = wiped_at_line (b.store ∙ h.store) (has.steps x among) is wiped in
+        record { slot = there.slot; seen = left_sees a.last.store whole_tab a.last.pass a.end.pass has.left.left _ (b.sees _ there.seen) }

@@ -1,5 +1,6 @@
 -- The epochs that a line shows.
-use Rattle.std.proofs.Common.{Bool, Contains, List, Option, Some, [], ap, arith, cond, eq-eqb, refl, subst, sym, ⊎_elim, ◌∙◌, ◌∷◌, ◌≡◌, ◌<◌, ◌≤◌, ℕ}
+use Rattle.std.proofs.Common.{Bool, Contains, List, Option, Some, [], ap, arith, cond, eq-eqb, false, refl, subst, sym, true, ⊎_elim, ◌==◌, ◌∙◌, ◌∷◌, ◌≡◌, ◌<◌, ◌≤◌, ℕ}
+use Rattle.std.proofs.lemmas.Bool.{eqb-true}
 use Rattle.std.proofs.lemmas.List.Elements.{Contains-append_right}
 use Rattle.store_key.specs.Anchor.{anchor_of}
 use Rattle.store_key.specs.Key.{key_of}
@@ -11,11 +12,27 @@ use Rattle.core_model.specs.declared.view.View.{View}
 use Rattle.core_model.proofs.Lists.{cons_contains, contains_none}
 use Rattle.line_account.specs.Lines.{IsAnchorOf, Served, url_at}
 use Rattle.line_account.specs.Accounts.{Shows, epochs_of}
-use Rattle.line_account.specs.Deeds.{PrintsBegunVersion, TellsBegun}
+use Rattle.line_account.specs.Deeds.{Begins}
 use Rattle.lock_word.specs.Words.{stage_of, version_of}
-use Rattle.script_text.specs.Requests.{url_in}
 use Rattle.store_serve.specs.Growing.{GrowsTo}
 use Rattle.store_rule.specs.Calls.{IsFresh}
+
+-- Of an anchor of which nothing was seen no epoch was.
+
+stood_none : (a : ℕ) (x : Sight) → ((e : ℕ) → x ≡ Stood a e → ⊥) → stood a x ≡ 0
+stood_none a (Stood b e) never = here (b == a) refl
+  where
+    here : (is : Bool) → (b == a) ≡ is → cond is e 0 ≡ 0
+    here true q = absurd (never e (ap (λ (z : ℕ). Stood z e) (eqb-true b a q)))
+    here false q = refl
+stood_none a _ never = refl
+
+pub nothing_seen : (a : ℕ) (xs : List Sight) → ((e : ℕ) → Contains xs (Stood a e) → ⊥) → seen_at a xs ≡ 0
+nothing_seen a [] never = refl
+nothing_seen a (x ∷ xs) never =
+    let first = stood_none a x (λ e q. never e (0, omega arith, q)) in
+    let rest = nothing_seen a xs (λ e c. never e (Contains-append_right (x ∷ []) xs (Stood a e) c)) in
+    omega arith
 
 -- What was seen is not above what is seen later.
 
@@ -29,7 +46,7 @@ stood_below a x (y ∷ ys) h = ⊎_elim
 seen_epoch : (a d : ℕ) (ys : List Sight) → Contains ys (Stood a d) → d ≤ seen_at a ys
 seen_epoch a d ys h = let low = stood_below a (Stood a d) ys h in let here : stood a (Stood a d) ≡ d = ap (λ (b : Bool). cond b d 0) (eq-eqb a a refl) in omega arith
 
-seen_below : (a : ℕ) (xs ys : List Sight) → ((x : Sight) → Contains xs x → Contains ys x) → seen_at a xs ≤ seen_at a ys
+pub seen_below : (a : ℕ) (xs ys : List Sight) → ((x : Sight) → Contains xs x → Contains ys x) → seen_at a xs ≤ seen_at a ys
 seen_below a [] ys f = omega arith
 seen_below a (x ∷ xs) ys f =
     let first = stood_below a x ys (f x (0, omega arith, refl)) in
@@ -80,13 +97,9 @@ same_url url other e = cc
 pub anchor_at : (anchors : ℕ) (named : Option (List ℕ)) (url : List ℕ) (a : ℕ) → named ≡ Some url → IsAnchorOf anchors named a → anchor_of (key_of url) anchors ≡ a
 anchor_at anchors named url a is h = ap (λ (u : List ℕ). anchor_of (key_of u) anchors) (same_url url h.url (sym is ∙ h.named_is)) ∙ sym h.anchor
 
--- a line that printed that it began a version, where this is later than all that was seen at the anchor of its URL
-pub begun_above : {X : Type 0} → (anchors : ℕ) (v : View X) (s : Served) (url : List ℕ) (version : ℕ) → url_in s.asked.request ≡ Some url → version_of (seen_at (anchor_of (key_of url) anchors) v.seen) < version
-    → ((x : ℕ) → TellsBegun s.asked.request s.answer x → version ≡ x) → (a x : ℕ) → PrintsBegunVersion anchors s a x → version_of (seen_at a v.seen) < x
-begun_above anchors v s url version named later told a x h =
-    let here = anchor_at anchors (url_in s.asked.request) url a named h.anchor in
-    let same = told x h.told in
-    subst (λ (z : ℕ). version_of (seen_at z v.seen) < x) here (omega arith)
+-- a line that drew a version, where this is later than all that was seen
+pub drawn_above : (anchors : ℕ) (s : Served) (sights : List Sight) (version : ℕ) → s.drew ≡ Some version → ((b : ℕ) → version_of (seen_at b sights) < version) → (a b x : ℕ) → Begins anchors s a x → version_of (seen_at b sights) < x
+drawn_above anchors s sights version drew later a b x h = let same : Some version ≡ Some x = sym drew ∙ h.drew in let is : version ≡ x = cc in let below = later b in omega arith
 
 module _ {X : Type 0} (anchors : ℕ) (v w : View X) (earlier : List Served) (s : Served) where
   -- each epoch that the line shows is in turn

@@ -6,7 +6,7 @@ use Rattle.script_text.specs.declared.answer.Answer.{Answer}
 use Rattle.script_text.specs.declared.answer.Answer.TheVariants as answer
 use Rattle.script_text.specs.declared.body.Body.{Body}
 use Rattle.script_text.specs.declared.request.Request.{Request}
-use Rattle.script_text.specs.declared.request.Request.TheVariants.{Add, Begin, CloseTab, DropTab, End, Get, More, OpenTab, Purge, Put, Save}
+use Rattle.script_text.specs.declared.request.Request.TheVariants.{Add, Begin, CloseTab, DropTab, End, Get, More, OpenTab, Purge, Put, Save, Wipe}
 use Rattle.line_account.specs.Lines.{Served, added, added_by, added_in, begins, bytes_given, bytes_in, closes, ends, given_by, is_begun, is_closed, is_dropped, is_finished, is_opened, is_refused, opens, reading, writing}
 use Rattle.line_account.specs.Stopping.{answered_more, answers_more, is_end, is_halted, is_other_url}
 use Rattle.std.proofs.Common.{◌||◌}
@@ -59,6 +59,9 @@ get_alone url a j = alone j (Get url) a refl refl refl refl refl refl refl
 
 pub purge_alone : (url : List ℕ) (a : Answer) (j : ℕ) → LeavesAlone j (Purge url) a
 purge_alone url a j = alone j (Purge url) a refl refl refl refl refl refl refl
+
+pub wipe_alone : (url : List ℕ) (a : Answer) (j : ℕ) → LeavesAlone j (Wipe url) a
+wipe_alone url a j = alone j (Wipe url) a refl refl refl refl refl refl refl
 
 pub put_alone : (url : List ℕ) (body : Body) (a : Answer) (j : ℕ) → LeavesAlone j (Put url body) a
 put_alone url body a j = alone j (Put url body) a refl refl refl refl refl refl refl

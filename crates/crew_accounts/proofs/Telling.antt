@@ -11,11 +11,11 @@ use Rattle.script_text.specs.declared.body.Body.{Body}
 use Rattle.script_text.specs.declared.request.Request.TheVariants.{More}
 use Rattle.core_model.specs.declared.view.Sight.TheVariants.{Stood}
 use Rattle.core_model.specs.declared.view.View.{View}
-use Rattle.line_account.specs.Lines.{Fits, IsAt, Offers, Served, gives_up, offers}
+use Rattle.line_account.specs.Lines.{Fits, IsAt, Offers, Served, begun_by, gives_up, offers}
 use Rattle.line_account.specs.Requests.{IsAnswerTo}
 use Rattle.line_account.specs.Stopping.{ReadsBehind, is_end, is_halted, is_other_url}
 use Rattle.line_account.specs.Deeds.{Began}
-use Rattle.line_account.specs.Answers.{ComesIn, HasAdded, HasGiven, HasHit, HasOpened, HasOther, HasPurged, IsBusy, IsCauseOf, IsKeyRead, IsLarge, IsLong, IsOfOpened, IsSmall, IsSpent, Reads, Refuses, Run}
+use Rattle.line_account.specs.Answers.{ComesIn, HasAdded, HasGiven, HasHit, HasOpened, HasOther, HasPurged, IsBusy, IsCauseOf, IsKeyRead, IsLarge, IsLong, IsOfOpened, IsSmall, IsSpent, Reads, Refuses, Run, TellsDoom}
 use Rattle.line_account.specs.Accounts.{HasBegun, HasFinished, HasGivenUp, IsOffered, Shows, Tells, epoch_in}
 
 module _ {X : Type 0} (r : Run X) (v : View X) (earlier : List Served) (s : Served) where
@@ -39,7 +39,7 @@ module _ {X : Type 0} (r : Run X) (v : View X) (earlier : List Served) (s : Serv
   ToTell answer.LongUrl = IsLong r s
   ToTell answer.Full = HasGivenUp r.setting.anchors v earlier s × (r.fits ≡ false)
   ToTell answer.Large = HasGivenUp r.setting.anchors v earlier s × IsLarge r earlier s
-  ToTell answer.Fault = HasGivenUp r.setting.anchors v earlier s
+  ToTell answer.Fault = begun_by earlier s ≢ None → HasGivenUp r.setting.anchors v earlier s
   ToTell (answer.Hit x bytes) = IsTrue r.tells → HasHit r v s bytes × HasGiven r v earlier s
   ToTell (answer.Part e bytes) = (stage_of (epoch_number e) ≡ 2) × IsOfOpened earlier s (epoch_number e) × (IsTrue r.tells → HasGiven r v earlier s)
   ToTell (answer.End bytes) = IsTrue r.tells → HasGiven r v earlier s
@@ -48,17 +48,25 @@ module _ {X : Type 0} (r : Run X) (v : View X) (earlier : List Served) (s : Serv
   ToTell answer.OtherUrl = IsTrue r.tells → HasOther r v earlier s
   ToTell (answer.Miss c) = ForCause c
   ToTell (answer.Purged e) = HasPurged r v s e
+  ToTell (answer.Wiped e) = HasPurged r v s e
+  ToTell (answer.Later e) = HasPurged r v s e
   ToTell (answer.NoEntry c) = ForCause c
   ToTell (answer.Added n) = HasAdded r v earlier s n
   ToTell answer.Dropped = HasGivenUp r.setting.anchors v earlier s
   ToTell _ = Unit {0}
 
-  up : (a : Answer) → ToTell a → gives_up a ≡ true → HasGivenUp r.setting.anchors v earlier s
-  up answer.Full t h = t.0
-  up answer.Large t h = t.0
-  up answer.Fault t h = t
-  up answer.Dropped t h = t
-  up _ t h = absurd (let z : false ≡ true = h in cc)
+  up : (a : Answer) → ToTell a → begun_by earlier s ≢ None → gives_up a ≡ true → HasGivenUp r.setting.anchors v earlier s
+  up answer.Full t writes h = t.0
+  up answer.Large t writes h = t.0
+  up answer.Fault t writes h = t writes
+  up answer.Dropped t writes h = t
+  up _ t writes h = absurd (let z : false ≡ true = h in cc)
+
+  by_doom : (a : Answer) → ToTell a → (e : Epoch) → TellsDoom a e → HasPurged r v s e
+  by_doom (answer.Purged d) t e h = subst (HasPurged r v s) h t
+  by_doom (answer.Wiped d) t e h = subst (HasPurged r v s) h t
+  by_doom (answer.Later d) t e h = subst (HasPurged r v s) h t
+  by_doom _ t e h = absurd h
 
   by_cause : (a : Answer) → ToTell a → (c : Cause) → Refuses a c → ForCause c
   by_cause (answer.Miss d) t c h = subst ForCause h t
@@ -100,7 +108,7 @@ module _ {X : Type 0} (r : Run X) (v : View X) (earlier : List Served) (s : Serv
     drew = q.drew;
     began = q.began;
     finished = λ x h. (ends x h).0;
-    gave_up = λ h. up s.answer t h;
+    gave_up = λ writes h. up s.answer t writes h;
     full = λ h. (subst ToTell h t).1;
     large = λ h. (subst ToTell h t).1;
     small = λ x h. (ends x h).1;
@@ -118,7 +126,7 @@ module _ {X : Type 0} (r : Run X) (v : View X) (earlier : List Served) (s : Serv
     part = λ e bytes h. (subst ToTell h t).0;
     halted_version = λ bytes h. (subst ToTell h t).1;
     part_version = λ e bytes h. (subst ToTell h t).1;
-    purged = λ e h. subst ToTell h t;
+    purged = λ e h. by_doom s.answer t e h;
     added = λ count h. subst ToTell h t;
     given = λ y h. by_reading s.answer t y h;
     tab = q.tab;

@@ -24,10 +24,10 @@ use Rattle.store_rule.proofs.Moves.{known_of}
 use Rattle.rock_reader.specs.Opening.{Came}
 use Rattle.rock_reader.specs.Reading.{ReadsAs, Standing, Waits}
 use Rattle.rock_writer.specs.Beginning.{AreFresh, InUse, Overtaken}
-use Rattle.purge_entry.specs.Purging.{Purged}
 use Rattle.store_serve.proofs.Anchors.{drew}
 use Rattle.store_serve.proofs.Grown.{by_step, on}
 use Rattle.store_serve.proofs.Slots.{key_loaded}
+use Rattle.crew_accounts.proofs.Doomed.{HasDoomed}
 use Rattle.crew_accounts.proofs.Shown.{IsInTurn}
 
 -- the stages that were seen of the version lead to this one
@@ -46,19 +46,19 @@ module _ {X : Type 0} (g : Ground X) where
   came_turn {t} {url} {v} {entered} {w} {epoch} h = in_turn h.fresh (step_leads v (Enter t (anchor_for g url)) h.found entered (anchor_for g url) (epoch_number epoch) h.enter (λ i. Some (Anchor (anchor_for g url))) h.epoch_is)
 
   -- and the epoch that a purge left there
-  pub doomed_turn : {t : ℕ} {url : List ℕ} {v w : View X} {left : Epoch} → Purged g t url v left w → IsInTurn (anchor_for g url) (epoch_number left) v w
+  pub doomed_turn : {t : ℕ} {url : List ℕ} {v w : View X} {left : Epoch} → HasDoomed g t url v left w → IsInTurn (anchor_for g url) (epoch_number left) v w
   doomed_turn {t} {url} {v} {w} {left} h = in_turn h.fresh led
     where
-      there : place h.entry.keyed (Doom t) ≡ Some (Anchor (anchor_for g url))
-      there = ap (λ tab. Some (Anchor (anchor_of tab))) h.entry.reads
+      there : place h.keyed (Doom t) ≡ Some (Anchor (anchor_for g url))
+      there = ap (λ tab. Some (Anchor (anchor_of tab))) h.reads
 
       led : AreLed (anchor_for g url) (epoch_number left) v
       led d c same =
-          let n : ℕ = h.entry.word in
-          let seen = (on (by_step h.came.enter) (key_loaded h.entry.key)).seen (Stood (anchor_for g url) d) c in
-          let version : version_of d ≡ version_of (epoch_of n) = same ∙ ap version_of h.entry.left_is ∙ version_of-doomed n in
-          let leads = step_leads h.entry.keyed (Doom t) n h.entry.after (anchor_for g url) (epoch_of n) h.entry.doom there (λ i. epoch_of n) d seen version in
-          subst (λ (s : ℕ). Leads (stage_of d) s) (sym (ap stage_of h.entry.left_is ∙ stage_of-doomed n)) leads
+          let n : ℕ = h.word in
+          let seen = (on (by_step h.came.enter) (key_loaded h.key)).seen (Stood (anchor_for g url) d) c in
+          let version : version_of d ≡ version_of (epoch_of n) = same ∙ ap version_of h.left_is ∙ version_of-doomed n in
+          let leads = step_leads h.keyed (Doom t) n h.after (anchor_for g url) (epoch_of n) h.doom there (λ i. epoch_of n) d seen version in
+          subst (λ (s : ℕ). Leads (stage_of d) s) (sym (ap stage_of h.left_is ∙ stage_of-doomed n)) leads
 
 -- a tab that reads on and waits
 pub waits_turn : {C O : Type 0} → (tells : Bool) (state : C → CellState) (offers : O → Offers) (s : Store C O) (t : ℕ) (m q : Pass C) (f : Standing) (before after : List ℕ) (epoch : Epoch)

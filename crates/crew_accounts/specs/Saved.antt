@@ -2,6 +2,8 @@
 use Rattle.std.specs.Prelude.{Contains, List, true, ◌+◌, ◌-◌, ◌≡◌, ℕ}
 use mathlib.Core.Option.{some}
 use lib.ListN.{get_elem?}
+use Rattle.core_model.specs.declared.view.Sight.TheVariants.{Wiped}
+use Rattle.core_model.specs.declared.view.View.{View}
 use Rattle.script_text.specs.declared.answer.Answer.TheVariants as answer
 use Rattle.script_text.specs.declared.body.Body.{Body}
 use Rattle.script_text.specs.declared.line.Line.{Line}
@@ -24,6 +26,11 @@ saved_as g number url version = put_as g (g.setting.slots + number) url true (St
 abbrev pub IsSave : Request → Type 0
 IsSave (Save url body) = Unit {0}
 IsSave _ = ⊥
+
+-- a pass has seen that a slot was wiped, for this version of the anchor
+pub record HasWiped {X : Type 0} (v : View X) (a version : ℕ) : Type 0 where
+  pub slot : ℕ
+  pub seen : Contains v.seen (Wiped a version slot)
 
 module _ {C O St : Type 0} (g : Ground (List ℕ)) (script : List Line) (accounts : List (Account (OnShelf C O St)))
     (a version offer : ℕ) where

@@ -1,4 +1,4 @@
-// Lines that read or purge. The functions here do nothing: the proof of a function that calls one may use what it
+// Lines that read, purge or wipe. The functions here do nothing: the proof of a function that calls one may use what it
 // ensures.
 ghost use Rattle.std.specs.Prelude.{Bool, IsTrue, List, ℕ};
 ghost use Rattle.script_text.specs.declared.answer.Answer.{Answer};
@@ -27,7 +27,17 @@ pub fn purges_add<C: Cell, O: Origin>()
         → AddsLine C.tells C.state O.offers s told past served (line_with worker number (Request.Purge url)) p a q }
 {}
 
-/// So does one that opens an entry on a tab.
+/// So does one that wipes it.
+pub fn wipes_add<C: Cell, O: Origin>()
+    ensures { (s : Store C O) (told : Bool) (past : Past) (served : List Served) (worker number : ℕ) (url : List ℕ) (p q : Pass C)
+        (a : Answer) (before after : ℕ)
+        → Tracks C.tells C.state O.offers s told past served p
+        → Takes C.tells C.state O.offers s p (line_with worker number (Request.Wipe url))
+        → Serves C.tells C.state O.offers s (line_with worker number (Request.Wipe url)) p a q before after → IsTyped a
+        → AddsLine C.tells C.state O.offers s told past served (line_with worker number (Request.Wipe url)) p a q }
+{}
+
+/// And one that opens an entry on a tab.
 pub fn opens_add<C: Cell, O: Origin>()
     ensures { (s : Store C O) (told : Bool) (past : Past) (served : List Served) (worker number t : ℕ) (url : List ℕ) (p q : Pass C)
         (a : Answer) (before after : ℕ)
@@ -37,7 +47,7 @@ pub fn opens_add<C: Cell, O: Origin>()
         → AddsLine C.tells C.state O.offers s told past served (line_with worker number (Request.OpenTab t url)) p a q }
 {}
 
-/// And one that closes it.
+/// So does one that closes it.
 pub fn closes_add<C: Cell, O: Origin>()
     ensures { (s : Store C O) (told : Bool) (past : Past) (served : List Served) (worker number t : ℕ) (p q : Pass C) (a : Answer)
         (before after : ℕ)
@@ -47,7 +57,7 @@ pub fn closes_add<C: Cell, O: Origin>()
         → AddsLine C.tells C.state O.offers s told past served (line_with worker number (Request.CloseTab t)) p a q }
 {}
 
-/// So does one that reads on, where bytes are told of only as `IsTold` says.
+/// And one that reads on, where bytes are told of only as `IsTold` says.
 pub fn mores_add<C: Cell, O: Origin>()
     ensures { (s : Store C O) (told : Bool) (past : Past) (served : List Served) (worker number t : ℕ) (p q : Pass C) (a : Answer)
         (before after : ℕ)
@@ -60,7 +70,7 @@ pub fn mores_add<C: Cell, O: Origin>()
     bodies_are_given_from_the_front();
 }
 
-/// And one that gets the entry of a URL.
+/// So does one that gets the entry of a URL.
 pub fn gets_add<C: Cell, O: Origin>()
     ensures { (s : Store C O) (told : Bool) (past : Past) (served : List Served) (worker number : ℕ) (url : List ℕ) (p q : Pass C)
         (a : Answer) (before after : ℕ)

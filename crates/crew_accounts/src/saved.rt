@@ -1,6 +1,7 @@
-// What lines stored and saved, when a store is closed. The functions here do nothing: the proof of a function that calls
+// What lines stored, saved and wiped, when a store is closed. The functions here do nothing: the proof of a function that calls
 // one may use what it ensures.
 ghost use Rattle.std.specs.Prelude.{Contains, List, ◌<◌, ◌≡◌, ℕ};
+ghost use Rattle.lock_word.specs.declared.epoch.Epoch.{Epoch};
 ghost use Rattle.lock_word.specs.Words.{doom_of, epoch_of, stage_of, version_of};
 ghost use Rattle.core_model.specs.declared.moves.Side.TheVariants.{Offer};
 ghost use Rattle.core_model.specs.Anchors.{opening_counter};
@@ -10,6 +11,7 @@ ghost use Rattle.script_text.specs.declared.body.Body.{Body};
 ghost use Rattle.script_text.specs.declared.line.Line.{Line};
 ghost use Rattle.script_text.specs.declared.request.Request.{Request};
 ghost use Rattle.store_rule.specs.declared.store.Store.{Store};
+ghost use Rattle.store_rule.specs.Ground.{anchor_for};
 ghost use Rattle.store_rule.specs.Passes.{basis, view};
 ghost use Rattle.worker_pool.specs.Courses.{Stage};
 ghost use Rattle.worker_pool.specs.Running.{Account};
@@ -19,7 +21,7 @@ ghost use Rattle.store_serve.specs.Tabs.{IsOffered};
 ghost use Rattle.worker_shelf.specs.Shelves.{OnShelf};
 ghost use Rattle.crew_accounts.specs.Playing.{HasRun};
 ghost use Rattle.worker_shelf.specs.Playing.{IsPlayed};
-ghost use Rattle.crew_accounts.specs.Saved.{IsOfLine, saved_as};
+ghost use Rattle.crew_accounts.specs.Saved.{HasWiped, IsOfLine, saved_as};
 
 use crate::shelves::shelves_have_courses;
 use line_account::accounts_grow;
@@ -44,6 +46,15 @@ pub fn saved_entries_stay_known<C: Cell, O: Origin, St: Station<C = C>>()
         (url : List ℕ) (body : Body)
         → IsPlayed C.tells C.state O.offers St.faults s script w a → Contains a.stages x → x.line.request ≡ Request.Save url body
         → IsOffered C.tells C.state O.offers s (offer_of C.tells C.state O.offers s x.line.number) url body }
+{}
+
+/// Where a `wipe` line of a worker was answered WIPED, the worker's pass has seen at its end that a slot was wiped, for the
+/// version that the answer tells.
+pub fn wiped_slots_stay_seen<C: Cell, O: Origin, St: Station<C = C>>()
+    ensures { (s : Store C O) (script : List Line) (w : ℕ) (a : Account (OnShelf C O St)) (x : Stage (OnShelf C O St)) (url : List ℕ) (epoch : Epoch)
+        → IsPlayed C.tells C.state O.offers St.faults s script w a → Contains a.stages x
+        → x.line.request ≡ Request.Wipe url → x.answer ≡ Answer.Wiped epoch
+        → HasWiped (view a.end.pass) (anchor_for (basis C.tells C.state O.offers s) url) epoch.version }
 {}
 
 /// Where an entry stands closed and not doomed at an anchor when a store was closed, and its version is none of the

@@ -18,13 +18,13 @@ use Rattle.script_text.specs.declared.answer.Answer.{Answer}
 use Rattle.script_text.specs.declared.answer.Answer.TheVariants as answer
 use Rattle.script_text.specs.declared.body.Body.{Body}
 use Rattle.script_text.specs.declared.request.Request.{Request}
-use Rattle.script_text.specs.declared.request.Request.TheVariants.{Get, Purge, Put}
+use Rattle.script_text.specs.declared.request.Request.TheVariants.{Get, Put}
 use Rattle.core_model.specs.declared.view.View.{View}
 use Rattle.core_model.specs.Anchors.{opening_counter}
 use Rattle.script_text.specs.Requests.{url_in}
 use Rattle.line_account.specs.Lines.{LineOf, Offers, Served, gives_up, offers, writing, url_at, begins, ends}
 use Rattle.line_account.specs.Deeds.{Began, Begins as BeginsVersion, Halts, PrintsBegunVersion, TellsBegun}
-use Rattle.line_account.specs.Answers.{Run}
+use Rattle.line_account.specs.Answers.{Run, TellsDoom}
 use Rattle.line_account.specs.Accounts.{Shows, epochs_of, epoch_in}
 use Rattle.line_account.specs.Courses.{Stage, lines_in, Course}
 use Rattle.line_account.specs.Closing.{BegunIn, Closed, HaltedIn, LineIn, ShownIn, Worker, offered, offered_by}
@@ -36,7 +36,7 @@ use Rattle.line_account.proofs.Gathered.{one_line, same_line}
 use Rattle.line_account.proofs.Versions.{bounded, halted_by}
 use Rattle.line_account.proofs.HitVersions.{hit_body_printed, told_at_once}
 use Rattle.line_account.proofs.Printing.{given_back_halted, hit_of_new, spent_bounds}
-use Rattle.line_account.proofs.Ordering.{not_below_earlier, stage_in, not_below_met}
+use Rattle.line_account.proofs.Ordering.{doom_counts, not_below_earlier, stage_in, not_below_met}
 
 abbrev one_of : Bool → ℕ
 one_of b = cond b 1 0
@@ -223,15 +223,15 @@ module _ {X : Type 0} (r : Run X) (w : Worker) (c : Closed r (alone w)) where
       none b = by_place b.begun.j b.begun.worker b.begun.at (record { later = b.begun.later; served = b.begun.served; earlier = b.begun.earlier; split = b.begun.split; so = b.begun.so })
 
 module _ {X : Type 0} (r : Run X) (w : Worker) where
-  pub no_hit : (start end : View X) (p g : Stage X) (url bytes : List ℕ) (e : Epoch) (y : ℕ) → IsCourseOf r w start (g ∷ p ∷ []) end → p.served.asked.request ≡ Purge url → p.served.answer ≡ answer.Purged e
+  pub no_hit : (start end : View X) (p g : Stage X) (url bytes : List ℕ) (e : Epoch) (y : ℕ) → IsCourseOf r w start (g ∷ p ∷ []) end → url_at [] p.served.asked.request ≡ Some url → TellsDoom p.served.answer e
       → g.served.asked.request ≡ Get url → g.served.answer ≡ answer.Hit y bytes → version_of (epoch_number e) ≡ y → ⊥
-  no_hit start end p g url bytes e y o pq pa gq ga same =
+  no_hit start end p g url bytes e y o named told gq ga same =
       let a : ℕ = anchor_of (key_of url) r.setting.anchors in
       let order : NotBelow (epoch_number e) g.served.answer = not_below_earlier r start (g ∷ p ∷ []) o.last g p (p ∷ []) [] a (epoch_number e) o.course
       (record { in_ = record { later = []; split = refl }; at = record { url = url; named_is = ap (url_at (lines_in (p ∷ []))) gq; anchor = refl } })
-      (record { in_ = record { later = []; split = refl }; at = record { url = url; named_is = ap (url_at []) pq; anchor = refl } })
-      (subst (λ (z : Answer). Contains (counts_as z) (epoch_number e)) (sym pa) (0, omega arith, refl)) in
-      let doom : e.doom ≡ true = ((stage_in r start (g ∷ p ∷ []) (g ∷ []) p [] o.last refl o.course).adds.tells.purged e pa).doomed in
+      (record { in_ = record { later = []; split = refl }; at = record { url = url; named_is = named; anchor = refl } })
+      (doom_counts p.served.answer e told) in
+      let doom : e.doom ≡ true = ((stage_in r start (g ∷ p ∷ []) (g ∷ []) p [] o.last refl o.course).adds.tells.purged e told).doomed in
       let undoomed : doom_of (epoch_number e) ≡ 0 = order.undoomed y (subst (λ (z : Answer). FindsOrStores z y) (sym ga) refl) same in
       let doomed : doom_of (epoch_number e) ≡ 1 = doom_of-epoch_number e ∙ ap doom_number doom in
       omega arith

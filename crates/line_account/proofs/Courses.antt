@@ -159,13 +159,13 @@ module _ {X : Type 0} (r : Run X) (v w : View X) (h : KnowsAll v w) where
     drew = t.drew;
     began = t.began;
     finished = λ x q. finished_later earlier s x (t.finished x q);
-    gave_up = λ q. given_up_later earlier s (t.gave_up q);
+    gave_up = λ writes q. given_up_later earlier s (t.gave_up writes q);
     full = t.full;
     large = t.large;
     small = t.small;
     long = t.long;
     short = t.short;
-    busy = λ looked other q. let b = t.busy looked other q in record { cause = b.cause; rises = b.rises; met = λ a at more. h.met a (b.met a at more) };
+    busy = λ looked other q. let b = t.busy looked other q in record { cause = b.cause; rises = b.rises; met = λ a at more. h.met a (b.met a at more); counted = b.counted };
     spent = λ n q. spent_later s n (t.spent n q);
     offered = t.offered;
     cause = t.cause;

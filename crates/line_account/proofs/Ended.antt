@@ -1,5 +1,5 @@
 -- Workers of a crew, each with the view at which its lines ended.
-use Rattle.std.proofs.Common.{List, [], ap, arith, length, refl, suc, sum_by, sym, zero, ◌+◌, ◌∙◌, ◌∷◌, ◌≡◌, ℕ}
+use Rattle.std.proofs.Common.{List, [], ap, arith, length, refl, suc, sum_by, sym, zero, ◌∙◌, ◌∷◌, ◌≡◌, ℕ}
 use Rattle.std.proofs.lemmas.List.Sums.{sum_by-cons}
 use mathlib.Core.Option.{some, some-injective, some-ne-none}
 use lib.ListN.{get_elem?}

@@ -16,7 +16,7 @@ use Rattle.core_model.specs.Deeds.{IsEpochAt}
 use Rattle.script_text.specs.Requests.{url_in}
 use Rattle.line_account.specs.Lines.{Served}
 use Rattle.line_account.specs.Requests.{IsAnswerTo}
-use Rattle.line_account.specs.Answers.{ComesIn, HasOpened, HasPurged, IsKeyRead, Run}
+use Rattle.line_account.specs.Answers.{ComesIn, HasOpened, HasPurged, IsKeyRead, Run, TellsDoom}
 use Rattle.line_account.specs.Accounts.{Tells}
 use Rattle.line_account.specs.Closing.{Closed, LineIn, Worker}
 use Rattle.line_account.specs.Order.{FindsEntry, Opens}
@@ -96,11 +96,20 @@ module _ {X : Type 0} (r : Run X) (v : View X) (earlier : List Served) (s : Serv
       (o, sym (told_hit s.asked.request version bytes (version_of s.opened) (subst (λ (z : Answer). ComesIn s.asked.request z (version_of s.opened)) is o.told)) ∙ e)
   opens _ x is e = absurd e
 
+  -- where the line doomed an entry
+  dooms : (a : Answer) (epoch : Epoch) → s.answer ≡ a → TellsDoom a epoch → HasPurged r v s epoch
+  dooms a epoch is h = told.purged epoch (subst (λ (z : Answer). TellsDoom z epoch) (sym is) h)
+
+  doomed_so : (a : Answer) (epoch : Epoch) (x : ℕ) → s.answer ≡ a → TellsDoom a epoch → version_of (epoch_number epoch) ≡ x → (version_of s.opened ≡ x) × (is_readable s.opened ≡ true)
+  doomed_so a epoch x is h same = let k = dooms a epoch is h in (k.version_is ∙ same, k.keyed.readable)
+
   -- where the line found an entry
   found_so : (a : Answer) (x : ℕ) → s.answer ≡ a → FindsEntry a x → (version_of s.opened ≡ x) × (is_readable s.opened ≡ true)
   found_so (answer.Opened version) x is h = let o = opens (answer.Opened version) x is h in (o.1, o.0.entry.readable)
   found_so (answer.Hit version bytes) x is h = let o = opens (answer.Hit version bytes) x is h in (o.1, o.0.entry.readable)
-  found_so (answer.Purged epoch) x is h = let k = told.purged epoch is in (k.version_is ∙ h, k.keyed.readable)
+  found_so (answer.Purged epoch) x is h = doomed_so (answer.Purged epoch) epoch x is refl h
+  found_so (answer.Wiped epoch) x is h = doomed_so (answer.Wiped epoch) epoch x is refl h
+  found_so (answer.Later epoch) x is h = doomed_so (answer.Later epoch) epoch x is refl h
   found_so _ x is h = absurd h
 
   pub opened_so : (x : ℕ) → FindsEntry s.answer x → (version_of s.opened ≡ x) × (is_readable s.opened ≡ true)
@@ -114,7 +123,9 @@ module _ {X : Type 0} (r : Run X) (v : View X) (earlier : List Served) (s : Serv
       let o = told.opened x comes in
       of_opened x url named o
       (sym (told_part s.asked.request epoch bytes (version_of s.opened) (subst (λ (z : Answer). ComesIn s.asked.request z (version_of s.opened)) is o.told)) ∙ e)
-  found_by (answer.Purged epoch) x url is named e = of_purged epoch x url named (told.purged epoch is) e
+  found_by (answer.Purged epoch) x url is named e = of_purged epoch x url named (dooms (answer.Purged epoch) epoch is refl) e
+  found_by (answer.Wiped epoch) x url is named e = of_purged epoch x url named (dooms (answer.Wiped epoch) epoch is refl) e
+  found_by (answer.Later epoch) x url is named e = of_purged epoch x url named (dooms (answer.Later epoch) epoch is refl) e
   found_by _ x url is named e = absurd e
 
   pub found : (a x : ℕ) (url : List ℕ) → Finds r.setting.anchors s a x url → HasFound a x url

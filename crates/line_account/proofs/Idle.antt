@@ -13,7 +13,6 @@ use Rattle.core_model.specs.Anchors.{opening_epoch}
 use Rattle.core_model.specs.Opening.{new_view, new_views, sights_below}
 use Rattle.core_model.specs.Sound.{Sound}
 use Rattle.core_model.specs.State.{State}
-use Rattle.core_model.specs.Tabs.{IsPass}
 use Rattle.core_model.proofs.Lists.{cons_contains, contains_none}
 use Rattle.lock_word.specs.Words.{version_of}
 use Rattle.line_account.specs.Answers.{Run}

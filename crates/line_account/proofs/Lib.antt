@@ -21,9 +21,12 @@ pub mod PutAndGet
 pub mod Quiet
 pub mod Told
 pub mod Stages
+mod Begun
 pub mod Crews
 pub mod Known
 mod Unexplained
 mod UnexplainedEpochs
 mod UnexplainedOrder
 mod UnexplainedTabs
+mod UnexplainedReaders
+mod UnexplainedDraws

@@ -15,10 +15,10 @@ use Rattle.core_model.specs.declared.view.View.{View}
 use Rattle.core_model.specs.Trails.{seen_at, stood}
 use Rattle.core_model.specs.Versions.{Leads}
 use Rattle.core_model.proofs.Lists.{cons_contains, contains_none}
-use Rattle.line_account.specs.Deeds.{PrintsBegunVersion}
+use Rattle.line_account.specs.Deeds.{Begins}
 use Rattle.line_account.specs.Lines.{IsAt, Served}
 use Rattle.line_account.specs.Requests.{IsAnswerTo}
-use Rattle.line_account.specs.Answers.{ComesIn, HasOpened, Run}
+use Rattle.line_account.specs.Answers.{ComesIn, HasOpened, Run, TellsDoom}
 use Rattle.line_account.specs.Accounts.{Tells, epoch_in, epochs_of}
 use Rattle.line_account.specs.Courses.{Adds, Course, Stage, lines_in}
 use Rattle.line_account.specs.Order.{FindsEntry, FindsOrStores, HandsOver, NotBelow, Opens, StandsAt, StandsIn, counts_as, epochs_told, printed, version_alone}
@@ -94,6 +94,33 @@ found_below e opened v found h = ⊎_elim
 behind_first : (d e f : ℕ) → Contains (e ∷ []) f → Contains (d ∷ e ∷ []) f
 behind_first d e f h = Contains-append_right (d ∷ []) (e ∷ []) f h
 
+-- an answer that tells a doom counts as the epoch that it tells
+pub doom_counts : (a : Answer) (e : Epoch) → TellsDoom a e → Contains (counts_as a) (epoch_number e)
+doom_counts (answer.Purged epoch) e h = (0, omega arith, ap epoch_number h)
+doom_counts (answer.Wiped epoch) e h = (0, omega arith, ap epoch_number h)
+doom_counts (answer.Later epoch) e h = (0, omega arith, ap epoch_number h)
+doom_counts _ e h = absurd h
+
+-- and tells of an entry with its version
+pub doom_finds : (a : Answer) (e : Epoch) → TellsDoom a e → FindsOrStores a (version_of (epoch_number e))
+doom_finds (answer.Purged epoch) e h = ap (λ (z : Epoch). version_of (epoch_number z)) h
+doom_finds (answer.Wiped epoch) e h = ap (λ (z : Epoch). version_of (epoch_number z)) h
+doom_finds (answer.Later epoch) e h = ap (λ (z : Epoch). version_of (epoch_number z)) h
+doom_finds _ e h = absurd h
+
+-- an answer that tells a doom shows where the entry was found, and the epoch that the doom left
+of_doom : (opened e : ℕ) (epoch : Epoch) (a : Answer) → FoundAt opened (version_of (epoch_number epoch)) → ((f : ℕ) → Contains (opened ∷ epoch_number epoch ∷ []) f → e ≤ f) → StagesUp e (opened ∷ epoch_number epoch ∷ [])
+    → printed a ≡ epoch_number epoch ∷ [] → epochs_told a ≡ epoch_number epoch ∷ [] → version_alone a ≡ None
+    → ((x : ℕ) → FindsOrStores a x → version_of (epoch_number epoch) ≡ x) → ((x : ℕ) → FindsEntry a x → version_of (epoch_number epoch) ≡ x) → NotBelow e a
+of_doom opened e epoch a found h up prints tells alone stores finds =
+    let b = found_below e opened (version_of (epoch_number epoch)) found (h opened (first_of opened (epoch_number epoch ∷ []))) in record {
+      epochs = λ f q. h f (behind_first opened (epoch_number epoch) f (subst (λ (l : List ℕ). Contains l f) prints q));
+      versions = λ x q. absurd (let z : None ≡ Some x = sym alone ∙ q in cc);
+      undoomed = λ x q s. b.1 (s ∙ sym (stores x q));
+      there = λ x q s. b.2 (s ∙ sym (finds x q));
+      stages = λ f q s. up f (behind_first opened (epoch_number epoch) f (subst (λ (l : List ℕ). Contains l f) tells q)) s;
+    }
+
 pub below : (opened looked e : ℕ) (a : Answer) → ((x : ℕ) → FindsEntry a x → FoundAt opened x) → ((f : ℕ) → Contains (epochs_of opened looked a) f → e ≤ f) → ((f : ℕ) → Contains (epochs_of opened looked a) f → version_of f ≡ version_of e → stage_of e ≤ stage_of f)
     → NotBelow e a
 below opened looked e (answer.Stored version) found h up = let le = h (epoch_at version 3) (first_of (epoch_at version 3) []) in record {
@@ -131,15 +158,9 @@ below opened looked e (answer.Hit version bytes) found h up = let b = found_belo
   there = λ x q s. b.2 (s ∙ sym q);
   stages = λ f q s. absurd (contains_none f q);
 }
-below opened looked e (answer.Purged epoch) found h up =
-    let v : ℕ = version_of (epoch_number epoch) in
-    let b = found_below e opened v (found v refl) (h opened (first_of opened (epoch_number epoch ∷ []))) in record {
-      epochs = λ f q. h f (behind_first opened (epoch_number epoch) f q);
-      versions = λ x q. absurd (let z : None ≡ Some x = q in cc);
-      undoomed = λ x q s. b.1 (s ∙ sym q);
-      there = λ x q s. b.2 (s ∙ sym q);
-      stages = λ f q s. up f (behind_first opened (epoch_number epoch) f q) s;
-    }
+below opened looked e (answer.Purged epoch) found h up = of_doom opened e epoch (answer.Purged epoch) (found (version_of (epoch_number epoch)) refl) h up refl refl refl (λ x q. q) (λ x q. q)
+below opened looked e (answer.Wiped epoch) found h up = of_doom opened e epoch (answer.Wiped epoch) (found (version_of (epoch_number epoch)) refl) h up refl refl refl (λ x q. q) (λ x q. q)
+below opened looked e (answer.Later epoch) found h up = of_doom opened e epoch (answer.Later epoch) (found (version_of (epoch_number epoch)) refl) h up refl refl refl (λ x q. q) (λ x q. q)
 below opened looked e (answer.Busy first second) found h up = of_epochs e (answer.Busy first second) h up refl (λ x q. q) (λ x q. q)
 below opened looked e (answer.Part epoch bytes) found h up = of_epochs e (answer.Part epoch bytes) h up refl (λ x q. q) (λ x q. q)
 below opened looked e (answer.Miss cause) found h up = of_epochs e (answer.Miss cause) h up refl (λ x q. q) (λ x q. q)
@@ -191,6 +212,8 @@ counted opened looked e (answer.Doomed version) found h = as_shown opened looked
 counted opened looked e (answer.Begun version) found h = as_shown opened looked e (epoch_at version 1) (answer.Begun version) (one (epoch_at version 1) e h) (first_of (epoch_at version 1) [])
 counted opened looked e (answer.Part epoch bytes) found h = as_shown opened looked e (epoch_number epoch) (answer.Part epoch bytes) (one (epoch_number epoch) e h) (first_of (epoch_number epoch) [])
 counted opened looked e (answer.Purged epoch) found h = as_shown opened looked e (epoch_number epoch) (answer.Purged epoch) (one (epoch_number epoch) e h) (second_of opened (epoch_number epoch))
+counted opened looked e (answer.Wiped epoch) found h = as_shown opened looked e (epoch_number epoch) (answer.Wiped epoch) (one (epoch_number epoch) e h) (second_of opened (epoch_number epoch))
+counted opened looked e (answer.Later epoch) found h = as_shown opened looked e (epoch_number epoch) (answer.Later epoch) (one (epoch_number epoch) e h) (second_of opened (epoch_number epoch))
 counted opened looked e (answer.Miss cause) found h = as_shown opened looked e (epoch_number (epoch_in cause)) (answer.Miss cause) (one (epoch_number (epoch_in cause)) e h) (first_of (epoch_number (epoch_in cause)) [])
 counted opened looked e (answer.NoEntry cause) found h = as_shown opened looked e (epoch_number (epoch_in cause)) (answer.NoEntry cause) (one (epoch_number (epoch_in cause)) e h) (first_of (epoch_number (epoch_in cause)) [])
 counted opened looked e (answer.Opened version) found h = at_opening opened looked e version (answer.Opened version) (found version refl) (one (epoch_at version 2) e h) (first_of opened [])
@@ -258,7 +281,7 @@ module _ {X : Type 0} (r : Run X) (v : View X) (earlier : List Served) (s : Serv
       let o = t.opened version comes in
       found_of version (told_hit s.asked.request version (version_of s.opened) bytes (subst (λ (z : Answer). ComesIn s.asked.request z (version_of s.opened)) e o.told)) o
 
-  purged_at : (epoch : Epoch) → s.answer ≡ answer.Purged epoch → FoundAt s.opened (version_of (epoch_number epoch))
+  purged_at : (epoch : Epoch) → TellsDoom s.answer epoch → FoundAt s.opened (version_of (epoch_number epoch))
   purged_at epoch e = let h = t.purged epoch e in record { readable = h.keyed.readable; version_is = sym h.version_is }
 
   finds_of : (a : Answer) → a ≡ s.answer → (x : ℕ) → FindsEntry a x → FoundAt s.opened x
@@ -278,7 +301,9 @@ module _ {X : Type 0} (r : Run X) (v : View X) (earlier : List Served) (s : Serv
   finds_of (answer.ReadFault bytes) e x q = absurd q
   finds_of answer.OtherUrl e x q = absurd q
   finds_of (answer.Miss cause) e x q = absurd q
-  finds_of (answer.Purged epoch) e x q = subst (FoundAt s.opened) q (purged_at epoch (sym e))
+  finds_of (answer.Purged epoch) e x q = subst (FoundAt s.opened) q (purged_at epoch (subst (λ (z : Answer). TellsDoom z epoch) e refl))
+  finds_of (answer.Wiped epoch) e x q = subst (FoundAt s.opened) q (purged_at epoch (subst (λ (z : Answer). TellsDoom z epoch) e refl))
+  finds_of (answer.Later epoch) e x q = subst (FoundAt s.opened) q (purged_at epoch (subst (λ (z : Answer). TellsDoom z epoch) e refl))
   finds_of (answer.NoEntry cause) e x q = absurd q
   finds_of (answer.Begun version) e x q = absurd q
   finds_of (answer.Added count) e x q = absurd q
@@ -319,12 +344,12 @@ module _ {X : Type 0} (r : Run X) where
       (λ f q. let le = sight_le a k.epoch t.before.seen k.seen in let fresh = n.fresh a f record { at = at; shown = q } in let less = k.more in omega arith)
       (λ f q same. let up = leads_up (stage_of k.epoch) (stage_of f) (n.stages a k.epoch f record { at = at; shown = q } k.seen (k.version ∙ sym same)) in let less = k.stage in omega arith)
 
-  -- what was seen before a line that began a version there is of an earlier one
-  pub above_seen : (t : Stage X) (earlier : List (Stage X)) (a x d : ℕ) → Adds r t.before (lines_in earlier) t.served t.after → PrintsBegunVersion r.setting.anchors t.served a x → Seen a d t.before → version_of d < x
-  above_seen t earlier a x d n begun k =
-      let le = sight_le a k.epoch t.before.seen k.seen in
-      let up : version_of k.epoch ≤ version_of (seen_at a t.before.seen) = omega arith in
-      let above = n.above a x begun in
+  -- what was seen before a line that began a version is of an earlier one, at whatever anchor
+  pub above_seen : (t : Stage X) (earlier : List (Stage X)) (a b x d : ℕ) → Adds r t.before (lines_in earlier) t.served t.after → Begins r.setting.anchors t.served a x → Seen b d t.before → version_of d < x
+  above_seen t earlier a b x d n begun k =
+      let le = sight_le b k.epoch t.before.seen k.seen in
+      let up : version_of k.epoch ≤ version_of (seen_at b t.before.seen) = omega arith in
+      let above = n.above a b x begun in
       let same = k.version in
       omega arith
 

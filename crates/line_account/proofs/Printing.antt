@@ -5,7 +5,7 @@ use Rattle.std.specs.Int.{from_le_bytes, to_le_bytes, w64}
 use Rattle.std.proofs.Math.Decide.{dec_le}
 use Rattle.std.proofs.lemmas.List.{get_or-drop, length-take-le, take-append-drop}
 use Rattle.std.proofs.lemmas.Nat.{le_bytes_8}
-use mathlib.Core.Option.{some, some-injective}
+use mathlib.Core.Option.{some}
 use mathlib.Core.Logic.{dite}
 use native.Mathlib.Decide.{ℕ_discrete}
 use lib.ListN.{get_elem?}
@@ -34,10 +34,10 @@ use Rattle.script_text.specs.Requests.{url_in}
 use Rattle.line_account.specs.Lines.{begun_by, Fits, LineOf, Offers, Served, added, begun_of, writing}
 use Rattle.line_account.specs.Deeds.{Began, BeganOnTab, Begins, ComesTo, Evicts, IsDeedOf, IsDeedOfEnd}
 use Rattle.line_account.specs.Requests.{IsAnswerTo}
-use Rattle.line_account.specs.Answers.{ComesIn, HasGiven, HasItem, IsSure, bytes_with, HasOther, HasPurged, IsCauseOf, IsEntryAt, IsKeyRead, IsLong, IsSpent, ReadAs, Refuses, Run}
+use Rattle.line_account.specs.Answers.{ComesIn, HasGiven, HasItem, IsSure, bytes_with, HasOther, HasPurged, IsCauseOf, IsEntryAt, IsKeyRead, IsLong, IsSpent, ReadAs, Refuses, Run, AreCounted, TellsDoom, readers_at}
 use Rattle.line_account.specs.Accounts.{epoch_in}
 use Rattle.line_account.specs.Closing.{BegunIn, Closed, HaltedIn, LineIn, ShownIn, Worker, offered}
-use Rattle.line_account.specs.Printed.{AnotherComes, EndsBegun, AreFirstOnes, IsStored, ReadsOf, GivenBackIn, HadEntry, HasBusyWords, HasOtherUrl, HitIn, IsBodyOfLine, IsKeyOfLine, IsOldBody, IsOldUrl, KeyIn, NeedsTooMany, PrintsAdded, PrintsEnded, PrintsHit, PrintsKey, PrintsLarge, PrintsOther, PrintsReaders, WasWhole, old_offer}
+use Rattle.line_account.specs.Printed.{AnotherComes, PrintsBusy, EndsBegun, AreFirstOnes, IsStored, ReadsOf, GivenBackIn, HadEntry, HasBusyWords, HasOtherUrl, HitIn, IsBodyOfLine, IsKeyOfLine, IsOldBody, IsOldUrl, KeyIn, NeedsTooMany, PrintsAdded, PrintsEnded, PrintsHit, PrintsKey, PrintsLarge, PrintsOther, PrintsReaders, WasWhole, old_offer}
 use Rattle.line_account.proofs.GivenWay.{gave_way}
 use Rattle.line_account.proofs.HaltedNew.{halted_new}
 use Rattle.line_account.proofs.Gathered.{DeedIn, by_line, counter_below, counter_is, deed_in, inside, shown_known, tells_at}
@@ -212,6 +212,16 @@ module _ {X : Type 0} (r : Run X) (crew : List Worker) (c : Closed r crew) where
       found = record { other = r.url told.entry.offer; is = record { same_key = told.same_key; differs = told.differs; source = source } }
 
   -- Readers.
+
+  abbrev PrintsSo : ℕ → Word → Word → List Served → Served → Type 0
+  PrintsSo a looked other earlier s = PrintsBusy r.setting.anchors earlier s a looked other
+
+  pub counted_readers : (a : ℕ) (looked other : Word) (p : LineIn crew (PrintsSo a looked other))
+      → AreCounted (length crew) (readers_at r.setting.anchors p.earlier a) looked.readers × AreCounted (length crew) (readers_at r.setting.anchors p.earlier a) other.readers
+  counted_readers a looked other p =
+      let own : ℕ = readers_at r.setting.anchors p.earlier a in
+      subst (λ (n : ℕ). AreCounted n own looked.readers × AreCounted n own other.readers) (sym c.count)
+      (((tells_at r crew c (PrintsSo a looked other) p).busy looked other p.so.printed).counted a p.so.at)
 
   pub another_comes : (a : ℕ) (p : LineIn crew (λ earlier s. PrintsReaders r.setting.anchors earlier s a)) → AnotherComes r crew p.j a
   another_comes a p = of_deed (deed_in r crew c (EnteredByAnother a (c.view_at p.j).pass) (c.sound.anchors.deeds.met (c.index p.j) (c.view_at p.j) (c.at p.j p.worker p.at) a met))
@@ -414,14 +424,14 @@ module _ {X : Type 0} (r : Run X) (crew : List Worker) (c : Closed r crew) where
             );
           })
 
-  told_purged : (e : Epoch) (p : LineIn crew (λ earlier s. s.answer ≡ answer.Purged e)) → HasPurged r (c.view_at p.j) p.served e
-  told_purged e p = (tells_at r crew c (λ earlier s. s.answer ≡ answer.Purged e) p).purged e p.so
+  told_purged : (e : Epoch) (p : LineIn crew (λ earlier s. TellsDoom s.answer e)) → HasPurged r (c.view_at p.j) p.served e
+  told_purged e p = (tells_at r crew c (λ earlier s. TellsDoom s.answer e) p).purged e p.so
 
-  pub purged_told : (e : Epoch) → LineIn crew (λ earlier s. s.answer ≡ answer.Purged e) → e.doom ≡ true
+  pub purged_told : (e : Epoch) → LineIn crew (λ earlier s. TellsDoom s.answer e) → e.doom ≡ true
   purged_told e p = (told_purged e p).doomed
 
   -- a doom leaves the entry at APPENDING, CLOSED or HALTED
-  pub purged_stage : (e : Epoch) → LineIn crew (λ earlier s. s.answer ≡ answer.Purged e) → (2 ≤ stage_of (epoch_number e)) × (stage_of (epoch_number e) ≤ 4)
+  pub purged_stage : (e : Epoch) → LineIn crew (λ earlier s. TellsDoom s.answer e) → (2 ≤ stage_of (epoch_number e)) × (stage_of (epoch_number e) ≤ 4)
   purged_stage e p = ((told_purged e p).from, (told_purged e p).to)
 
   -- Ends of writings.

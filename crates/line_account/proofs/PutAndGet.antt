@@ -194,7 +194,7 @@ module _ {X : Type 0} (r : Run X) (url : List ℕ) (o : OffersNothing r url) whe
         (λ (q : answer.Stored x ≡ answer.Stored y). let same : x ≡ y = cc in subst (λ z. HasFinished r.setting v [] put z) same (record { anchor = a; grows = grows }))
         (λ (q : answer.Stored x ≡ answer.Doomed y). absurd cc)
         h;
-    gave_up = λ h. absurd (let z : false ≡ true = h in cc);
+    gave_up = λ writes h. absurd (let z : false ≡ true = h in cc);
     full = λ h. absurd (let z : answer.Stored x ≡ answer.Full = h in cc);
     large = λ h. absurd (let z : answer.Stored x ≡ answer.Large = h in cc);
     small = λ y h. put_small;
@@ -212,7 +212,7 @@ module _ {X : Type 0} (r : Run X) (url : List ℕ) (o : OffersNothing r url) whe
     part = λ e bytes h. absurd (let z : answer.Stored x ≡ answer.Part e bytes = h in cc);
     halted_version = λ bytes h. absurd (let z : answer.Stored x ≡ answer.Halted bytes = h in cc);
     part_version = λ e bytes h. absurd (let z : answer.Stored x ≡ answer.Part e bytes = h in cc);
-    purged = λ e h. absurd (let z : answer.Stored x ≡ answer.Purged e = h in cc);
+    purged = λ e h. absurd h;
     added = λ n h. absurd (let z : answer.Stored x ≡ answer.Added n = h in cc);
     given = λ t h. absurd h;
     tab = ((λ h. absurd (let z : answer.Stored x ≡ answer.Tab = h in cc)), (λ n. absurd (n tt)));
@@ -267,7 +267,7 @@ module _ {X : Type 0} (r : Run X) (url : List ℕ) (o : OffersNothing r url) whe
         (λ (q : answer.Hit x [] ≡ answer.Stored y). absurd cc)
         (λ (q : answer.Hit x [] ≡ answer.Doomed y). absurd cc)
         h;
-    gave_up = λ h. absurd (let z : false ≡ true = h in cc);
+    gave_up = λ writes h. absurd (let z : false ≡ true = h in cc);
     full = λ h. absurd (let z : answer.Hit x [] ≡ answer.Full = h in cc);
     large = λ h. absurd (let z : answer.Hit x [] ≡ answer.Large = h in cc);
     small = λ y h. absurd (⊎_elim
@@ -288,7 +288,7 @@ module _ {X : Type 0} (r : Run X) (url : List ℕ) (o : OffersNothing r url) whe
     part = λ e bytes h. absurd (let z : answer.Hit x [] ≡ answer.Part e bytes = h in cc);
     halted_version = λ bytes h. absurd (let z : answer.Hit x [] ≡ answer.Halted bytes = h in cc);
     part_version = λ e bytes h. absurd (let z : answer.Hit x [] ≡ answer.Part e bytes = h in cc);
-    purged = λ e h. absurd (let z : answer.Hit x [] ≡ answer.Purged e = h in cc);
+    purged = λ e h. absurd h;
     added = λ n h. absurd (let z : answer.Hit x [] ≡ answer.Added n = h in cc);
     given = λ t h. get_given;
     tab = ((λ h. absurd (let z : answer.Hit x [] ≡ answer.Tab = h in cc)), (λ n. absurd (n tt)));

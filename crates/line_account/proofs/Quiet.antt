@@ -20,11 +20,10 @@ use Rattle.line_account.specs.Lines.{Fits, Offers, Served, gives_up}
 use Rattle.line_account.specs.Requests.{IsAnswerTo}
 use Rattle.line_account.specs.Stopping.{ReadsBehind, is_end, is_halted, is_other_url}
 use Rattle.line_account.specs.Deeds.{Began, BeganAndEnded, BeganOnTab}
-use Rattle.line_account.specs.Answers.{ComesIn, OpenedAs, ReadAs, Reads, Refuses, Run}
+use Rattle.line_account.specs.Answers.{ComesIn, OpenedAs, ReadAs, Reads, Refuses, Run, TellsDoom}
 use Rattle.line_account.specs.Accounts.{IsOffered, Tells, drew_some, drew_version, epochs_of}
 use Rattle.core_model.specs.Knowing.{KnowsAll}
 use Rattle.line_account.specs.Courses.{Adds, one_if}
-use Rattle.line_account.proofs.Versions.{told_began}
 use Rattle.line_account.specs.Steps.{AtMark, IsAfter, IsIdle, IsMarkLine, IsTabLine}
 
 -- Lists of what steps added.
@@ -73,7 +72,7 @@ record IsSilent (a : Answer) : Type 0 where
   other : a ≢ answer.OtherUrl
   halted : (bytes : List ℕ) → a ≢ answer.Halted bytes
   part : (e : Epoch) (bytes : List ℕ) → a ≢ answer.Part e bytes
-  purged : (e : Epoch) → a ≢ answer.Purged e
+  purged : (e : Epoch) → TellsDoom a e → ⊥
   added : (n : ℕ) → a ≢ answer.Added n
   reads : Reads a → ⊥
 
@@ -107,7 +106,7 @@ silent_tab = record {
   other = λ h. cc;
   halted = λ bytes h. cc;
   part = λ e bytes h. cc;
-  purged = λ e h. cc;
+  purged = λ e h. h;
   added = λ n h. cc;
   reads = λ h. h;
 }
@@ -129,7 +128,7 @@ silent_marked = record {
   other = λ h. cc;
   halted = λ bytes h. cc;
   part = λ e bytes h. cc;
-  purged = λ e h. cc;
+  purged = λ e h. h;
   added = λ n h. cc;
   reads = λ h. h;
 }
@@ -151,7 +150,7 @@ silent_met = record {
   other = λ h. cc;
   halted = λ bytes h. cc;
   part = λ e bytes h. cc;
-  purged = λ e h. cc;
+  purged = λ e h. h;
   added = λ n h. cc;
   reads = λ h. h;
 }
@@ -173,7 +172,7 @@ silent_unmet = record {
   other = λ h. cc;
   halted = λ bytes h. cc;
   part = λ e bytes h. cc;
-  purged = λ e h. cc;
+  purged = λ e h. h;
   added = λ n h. cc;
   reads = λ h. h;
 }
@@ -203,7 +202,7 @@ module _ {X : Type 0} (r : Run X) where
     drew = λ n. absurd (n none);
     began = λ x h. absurd (q.began s.asked.request x h);
     finished = λ x h. absurd (q.finished x h);
-    gave_up = λ h. absurd (let z : true ≡ false = sym h ∙ q.gave_up in cc);
+    gave_up = λ writes h. absurd (let z : true ≡ false = sym h ∙ q.gave_up in cc);
     full = λ h. absurd (q.full h);
     large = λ h. absurd (q.large h);
     small = λ x h. absurd (q.finished x h);
@@ -238,7 +237,7 @@ module _ {X : Type 0} (r : Run X) where
     deeds = λ d h. inl (subst (λ (l : List Deed). Contains l d) idle.deeds h);
     fresh = λ a e h. absurd (contains_none e (subst (λ (l : List ℕ). Contains l e) (q.epochs s.opened s.looked) h.shown));
     stages = λ a d e h seen same. absurd (contains_none e (subst (λ (l : List ℕ). Contains l e) (q.epochs s.opened s.looked) h.shown));
-    above = λ a x h. absurd (q.began s.asked.request x (told_began s.asked.request s.answer x h.told));
+    above = λ a b x h. absurd (q.began s.asked.request x h.began);
     tells = tells;
     parts = λ t e bytes h. absurd (q.part e bytes h);
   }

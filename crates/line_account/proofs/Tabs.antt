@@ -1,12 +1,9 @@
 -- What the lines of one tab that reads have in common.
-use Rattle.std.proofs.Common.{◌≡◌, inr, ℕ, ◌<◌, ◌≤◌, List, [], ◌∷◌, ◌++◌, length, take, sym, refl, ap, ◌∙◌, subst, append_assoc, arith, Bool, true, false, cond, Contains, eq-eqb, eqb-true, length-append, ◌&&◌, ◌||◌, ◌==◌}
+use Rattle.std.proofs.Common.{◌≡◌, inr, ℕ, ◌<◌, ◌≤◌, List, length, take, sym, refl, ap, ◌∙◌, subst, Contains}
 use Rattle.std.specs.Prelude.{IsTrue, None, Some}
-use Rattle.std.proofs.lemmas.List.{length-take}
-use Rattle.std.proofs.Math.Decide.{dec_le}
-use mathlib.Core.Logic.{dite}
 use Rattle.store_key.specs.Anchor.{anchor_of}
 use Rattle.store_key.specs.Key.{key_of}
-use Rattle.lock_word.specs.Words.{epoch_number, stage_of, version_of}
+use Rattle.lock_word.specs.Words.{epoch_number, version_of}
 use Rattle.lock_word.specs.declared.epoch.Epoch.{Epoch}
 use Rattle.script_text.specs.declared.answer.Answer.{Answer}
 use Rattle.script_text.specs.declared.answer.Answer.TheVariants as answer
@@ -16,18 +13,16 @@ use Rattle.core_model.specs.declared.moves.Side.TheVariants.{Offer}
 use Rattle.core_model.specs.declared.view.Sight.TheVariants.{Named}
 use Rattle.core_model.specs.Anchors.{opening_counter}
 use Rattle.script_text.specs.Requests.{url_in}
-use Rattle.line_account.specs.Lines.{IsAt, Served, bytes_given, bytes_in, closes, given_by, is_opened, opened_of, opens, reading, url_at, url_named}
-use Rattle.line_account.specs.Accounts.{Tells, epochs_of}
-use Rattle.line_account.specs.Answers.{HasGiven, HasOther, IsPart, IsSure, IsWhole, Reads, Run, bytes_of_tab, bytes_with}
-use Rattle.line_account.specs.Requests.{IsAnswerTo}
-use Rattle.line_account.specs.Order.{Opens}
-use Rattle.line_account.specs.Closing.{Closed, HaltedIn, LineIn, ShownIn, Worker}
-use Rattle.line_account.specs.Printed.{ReadsVersion, ReadsWhole}
+use Rattle.line_account.specs.Lines.{IsAt, Served, opened_of, url_at, url_named}
+use Rattle.line_account.specs.Accounts.{epochs_of}
+use Rattle.line_account.specs.Answers.{HasGiven, HasOther, IsSure, Reads, Run, bytes_with}
+use Rattle.line_account.specs.Closing.{Closed, HaltedIn, LineIn, Worker}
+use Rattle.line_account.specs.Printed.{ReadsVersion}
 use Rattle.line_account.specs.Tabs.{IsFrontOfLine, IsFrontOfOld, ReadsHalted, ReadsOn, ReadsOther, ReadsPart, ReadsUnder}
 use Rattle.line_account.proofs.Gathered.{tells_at}
-use Rattle.line_account.proofs.HitVersions.{first_version, whole_kept}
+use Rattle.line_account.proofs.HitVersions.{first_version}
 use Rattle.line_account.proofs.Printing.{of_line, old_kept}
-use Rattle.line_account.proofs.Versions.{first_of_one, halted_by, shows, version_of_old}
+use Rattle.line_account.proofs.Versions.{first_of_one, halted_by, shows}
 
 one_some : (s t : Served) → Some s ≡ Some t → s ≡ t
 one_some s t e = cc

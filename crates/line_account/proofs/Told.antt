@@ -41,6 +41,8 @@ shown_of opened looked x (answer.ReadFault bytes) found h = absurd (let z : None
 shown_of opened looked x answer.OtherUrl found h = absurd (let z : None ≡ Some x = h in cc)
 shown_of opened looked x (answer.Miss cause) found h = absurd (let z : None ≡ Some x = h in cc)
 shown_of opened looked x (answer.Purged epoch) found h = absurd (let z : None ≡ Some x = h in cc)
+shown_of opened looked x (answer.Wiped epoch) found h = absurd (let z : None ≡ Some x = h in cc)
+shown_of opened looked x (answer.Later epoch) found h = absurd (let z : None ≡ Some x = h in cc)
 shown_of opened looked x (answer.NoEntry cause) found h = absurd (let z : None ≡ Some x = h in cc)
 shown_of opened looked x (answer.Added count) found h = absurd (let z : None ≡ Some x = h in cc)
 shown_of opened looked x answer.Dropped found h = absurd (let z : None ≡ Some x = h in cc)

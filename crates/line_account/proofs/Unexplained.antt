@@ -15,7 +15,7 @@ use Rattle.script_text.specs.declared.request.Request.{Request}
 use Rattle.script_text.specs.declared.request.Request.TheVariants.{Add, Begin, DropTab, Get, More, OpenTab, Purge, Put}
 use Rattle.core_model.specs.Anchors.{opening_counter, opening_epoch}
 use Rattle.line_account.specs.Alone.{alone, home}
-use Rattle.line_account.specs.Answers.{IsWhole, Run}
+use Rattle.line_account.specs.Answers.{IsWhole, Run, TellsDoom}
 use Rattle.line_account.specs.Closing.{BegunIn, HaltedIn, LineIn, TellsBegunIn, Worker}
 use Rattle.line_account.specs.Crews.KnewOf.{own}
 use Rattle.line_account.specs.Deeds.{Began, Begins, PrintsBegunVersion, TellsBegun}
@@ -209,16 +209,16 @@ module _ {X : Type 0} (r : Run X) (script : List Line) (w : Worker) (rules : Kee
       omega arith
 
   pub never_purged : (s : Served) (e : Epoch) → w.served ≡ s ∷ [] → s.answer ≡ answer.Purged e → (2 ≤ stage_of (epoch_number e)) × (stage_of (epoch_number e) ≤ 4)
-  never_purged s e is sa = rules.epochs.purged_stage e (line_in [] s [] is (λ earlier z. z.answer ≡ answer.Purged e) sa)
+  never_purged s e is sa = rules.epochs.purged_stage e (line_in [] s [] is (λ earlier z. TellsDoom z.answer e) (subst (λ (z : Answer). TellsDoom z e) (sym sa) refl))
 
   pub never_before : (g p : Served) (url bytes : List ℕ) (body : Body) (x : ℕ) → w.served ≡ p ∷ g ∷ [] → g.asked.request ≡ Get url → g.answer ≡ answer.Hit x bytes → p.asked.request ≡ Put url body → p.answer ≡ answer.Stored x → ⊥
   never_before g p url bytes body x is gq ga pq pa =
       let a : ℕ = home r url in
-      let later = rules.order.begun a x (epoch_at x 2) g []
-      (line_in [] p (g ∷ []) is (λ earlier z. PrintsBegunVersion r.setting.anchors z a x) (record {
+      let begun = rules.versions.told a x (line_in [] p (g ∷ []) is (λ earlier z. PrintsBegunVersion r.setting.anchors z a x) (record {
         anchor = record { url = url; named_is = ap url_in pq; anchor = refl };
         told = subst (λ (q : Request). TellsBegun q p.answer x) (sym pq) (subst (λ (z : Answer). TellsBegun (Put url body) z x) (sym pa) refl);
-      }))
+      })) in
+      let later = rules.order.begun a a x (epoch_at x 2) g [] (line_in [] p (g ∷ []) is (λ earlier z. Begins r.setting.anchors z a x) begun)
       (own (record { later = []; split = refl }))
       (record {
         at = record { url = url; named_is = ap (url_at []) gq; anchor = refl };

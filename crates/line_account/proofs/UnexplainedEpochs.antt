@@ -5,7 +5,7 @@ use Rattle.std.specs.Prelude.{IsTrue, None, Some, ◌==◌}
 use mathlib.Core.Option.{some, some-injective, some-ne-none}
 use lib.ListN.{get_elem?}
 use Rattle.lock_word.specs.Words.{doom_number, epoch_number, stage_number, stage_of, version_of}
-use Rattle.lock_word.specs.declared.cause.Cause.TheVariants.{Absent, Writing}
+use Rattle.lock_word.specs.declared.cause.Cause.TheVariants.{Absent, Leaving, Writing}
 use Rattle.lock_word.specs.declared.epoch.Epoch.{Epoch}
 use Rattle.lock_word.specs.declared.stage.Stage.TheVariants as stage
 use Rattle.lock_word.specs.declared.word.Word.{Word}
@@ -17,14 +17,14 @@ use Rattle.script_text.specs.declared.answer.Answer.TheVariants as answer
 use Rattle.script_text.specs.declared.body.Body.{Body}
 use Rattle.script_text.specs.declared.line.Line.{Line}
 use Rattle.script_text.specs.declared.request.Request.{Request}
-use Rattle.script_text.specs.declared.request.Request.TheVariants.{Begin, Get, Put}
+use Rattle.script_text.specs.declared.request.Request.TheVariants.{Add, Begin, DropTab, End, Get, Put, Save, Wipe}
 use Rattle.script_text.specs.Requests.{url_in}
 use Rattle.core_model.specs.Anchors.{opening_counter, opening_epoch}
 use Rattle.line_account.specs.Accounts.{Shows, epochs_of}
 use Rattle.line_account.specs.Alone.{alone, home}
-use Rattle.line_account.specs.Answers.{Run}
-use Rattle.line_account.specs.Closing.{HaltedIn, LineIn, ShownIn, Stores, TellsBegunIn, Worker}
-use Rattle.line_account.specs.Deeds.{Halts, MayEvict, TellsBegun}
+use Rattle.line_account.specs.Answers.{Run, TellsDoom}
+use Rattle.line_account.specs.Closing.{HaltedIn, LineIn, PurgesVersion, ShownIn, Stores, TellsBegunIn, Worker}
+use Rattle.line_account.specs.Deeds.{Halts, MayEvict, NeededSlots, TellsBegun, WipesInVain}
 use Rattle.line_account.specs.Lines.{IsAt, Served, begins, ends, gives_up, url_at, writing}
 use Rattle.line_account.specs.Printed.{MayGiveWay, WasWhole}
 use Rattle.line_account.specs.Refusals.{Any}
@@ -56,6 +56,15 @@ none_written t s is = ap (λ (b : Bool). cond b (Some s) (cond (ends t s.asked.r
     same : (b : Bool) → cond b None (writing t []) ≡ None
     same true = refl
     same false = refl
+
+-- a line that may have evicted an entry needed slots
+needed_slots : (q : Request) (a : Answer) → MayEvict q a → NeededSlots a
+needed_slots (Put url body) a h = h
+needed_slots (Save url body) a h = h
+needed_slots (Add tab count) a h = h
+needed_slots (End tab) a h = h
+needed_slots (DropTab tab) a h = h
+needed_slots _ a h = absurd h
 
 module _ {X : Type 0} (r : Run X) (script : List Line) (crew : List Worker) (rules : KeepsRules r script crew) where
   abbrev line_in : (j : ℕ) (w : Worker) → get_elem? crew j ≡ some w → (s : Served) → w.served ≡ s ∷ [] → (P : List Served → Served → Type 0) → P [] s → LineIn crew P
@@ -117,8 +126,8 @@ module _ {X : Type 0} (r : Run X) (script : List Line) (w : Worker) (rules : Kee
     abbrev e : ℕ
     e = epoch_number held.epoch
 
-    none_evicts : LineIn (alone w) (λ earlier z. MayEvict z.answer) → ⊥
-    none_evicts p = subst MayEvict (ap Served.answer (sym (only (λ earlier z. MayEvict z.answer) p)) ∙ sa) p.so
+    none_evicts : LineIn (alone w) (λ earlier z. MayEvict z.asked.request z.answer) → ⊥
+    none_evicts p = subst NeededSlots (ap Served.answer (sym (only (λ earlier z. MayEvict z.asked.request z.answer) p)) ∙ sa) (needed_slots p.served.asked.request p.served.answer p.so)
 
     nothing : (t : ℕ) → writing t (s ∷ []) ≡ None
     nothing t = none_written t s (ap (λ (q : Request). begins t q s.answer) sq ∙ ap (begins t (Begin 0 url body)) sa ∙ and_right (0 == t) false refl)
@@ -169,8 +178,8 @@ module _ {X : Type 0} (r : Run X) (script : List Line) (crew : List Worker) (rul
   abbrev freed : ℕ
   freed = epoch_number held.epoch
 
-  no_eviction : LineIn crew (λ earlier z. MayEvict z.answer) → ⊥
-  no_eviction p = subst MayEvict (any_line (λ earlier z. MayEvict z.answer) p) p.so
+  no_eviction : LineIn crew (λ earlier z. MayEvict z.asked.request z.answer) → ⊥
+  no_eviction p = subst NeededSlots (any_line (λ earlier z. MayEvict z.asked.request z.answer) p) (needed_slots p.served.asked.request p.served.answer p.so)
 
   no_giving_up : HaltedIn r crew a (version_of freed) → ⊥
   no_giving_up (inl p) =
@@ -200,6 +209,37 @@ module _ {X : Type 0} (r : Run X) (script : List Line) (crew : List Worker) (rul
         split = p.split;
         so = record { at = p.so; shown = busy p.served held (any_line (λ earlier s. IsAt r.setting.anchors earlier s a) p) };
       }
+
+module _ {X : Type 0} (r : Run X) (script : List Line) (crew : List Worker) (rules : KeepsRules r script crew) (url : List ℕ) (x : ℕ) where
+  abbrev doomed : Epoch
+  doomed = record { version = x; stage = stage.Closed; doom = true }
+
+  pub never_doomed_alone : LineIn crew (λ earlier s. (s.asked.request ≡ Get url) × (s.answer ≡ answer.Miss (Leaving doomed))) → ((e : Epoch) → e.version ≡ x → LineIn crew (λ earlier s. TellsDoom s.answer e) → ⊥)
+      → ((other : List ℕ) → LineIn crew (λ earlier s. (s.asked.request ≡ Wipe other) × (s.answer ≡ answer.Fault)) → ⊥) → ⊥
+  never_doomed_alone p told faults =
+      let n : ℕ = epoch_number doomed in
+      let by = rules.epochs.doomed (home r url) n (record {
+        j = p.j;
+        worker = p.worker;
+        at = p.at;
+        later = p.later;
+        served = p.served;
+        earlier = p.earlier;
+        split = p.split;
+        so = record {
+          at = record { url = url; named_is = ap (url_at p.earlier) p.so.0; anchor = refl };
+          shown = first_of n [] (epochs_of p.served.opened p.served.looked p.served.answer) (ap (epochs_of p.served.opened p.served.looked) p.so.1);
+        };
+      }) (doom_of-epoch_number doomed) in
+      ⊎_elim
+      (λ (h : PurgesVersion r.setting.anchors by.served (home r url) (version_of n)).
+      told h.purges.epoch
+      (sym (version_of-epoch_number h.purges.epoch) ∙ ap version_of h.purges.epoch_is ∙ h.version_is ∙ version_of-epoch_number doomed)
+      (record { j = by.j; worker = by.worker; at = by.at; later = by.later; served = by.served; earlier = by.earlier; split = by.split; so = h.purges.answered }))
+      (λ (h : WipesInVain r.setting.anchors by.served (home r url)).
+      faults h.url
+      (record { j = by.j; worker = by.worker; at = by.at; later = by.later; served = by.served; earlier = by.earlier; split = by.split; so = (h.request, h.answered) }))
+      by.so
 
 module _ {X : Type 0} (r : Run X) (script : List Line) (u w : Worker) (rules : KeepsRules r script (u ∷ w ∷ [])) (p g : Served) (us : u.served ≡ p ∷ []) (ws : w.served ≡ g ∷ [])
     (url : List ℕ) (body : Body) (pq : p.asked.request ≡ Put url body) (gq : g.asked.request ≡ Get url) where

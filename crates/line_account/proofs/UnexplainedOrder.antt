@@ -1,6 +1,8 @@
 -- Lines in an order that no run explains.
-use Rattle.std.proofs.Common.{Bool, Contains, List, [], ap, arith, cond, false, refl, subst, sym, true, ◌∙◌, ◌∷◌, ◌≡◌, ◌≤◌, ◌||◌, ℕ}
+use Rattle.std.proofs.Common.{Bool, Contains, List, [], ap, arith, cond, false, refl, subst, sym, true, ◌<◌, ◌∙◌, ◌∷◌, ◌≡◌, ◌≤◌, ◌||◌, ℕ}
 use Rattle.std.specs.Prelude.{None, Some, ◌≢◌}
+use mathlib.Core.Option.{some}
+use lib.ListN.{get_elem?}
 use Rattle.lock_word.specs.Words.{doom_number, doom_of, epoch_at, epoch_number, version_of}
 use Rattle.lock_word.proofs.Parts.{doom_of-epoch_number, stage_of-epoch_number, version_of-epoch_number}
 use Rattle.lock_word.specs.declared.cause.Cause.TheVariants.{Absent, Leaving}
@@ -11,18 +13,19 @@ use Rattle.script_text.specs.declared.answer.Answer.TheVariants as answer
 use Rattle.script_text.specs.declared.body.Body.{Body}
 use Rattle.script_text.specs.declared.line.Line.{Line}
 use Rattle.script_text.specs.declared.request.Request.{Request}
-use Rattle.script_text.specs.declared.request.Request.TheVariants.{Await, Get, Mark, More, OpenTab, Purge, Put}
+use Rattle.script_text.specs.declared.request.Request.TheVariants.{Await, Get, Mark, More, OpenTab, Put}
 use Rattle.script_text.specs.Requests.{url_in}
 use Rattle.line_account.specs.Alone.{alone, home}
-use Rattle.line_account.specs.Answers.{IsSure, Reads, Run}
+use Rattle.line_account.specs.Answers.{Run, TellsDoom}
 use Rattle.line_account.specs.Closing.{LineIn, Worker}
 use Rattle.line_account.specs.Crews.{KnewOf}
 use Rattle.line_account.specs.Crews.KnewOf.{own, told}
-use Rattle.line_account.specs.Lines.{Served, closes, opened_by, opened_of, opens, reading, url_at}
-use Rattle.line_account.specs.Order.{FindsOrStores, NotBelow, Opens, counts_as, epochs_told, printed}
-use Rattle.line_account.specs.Printed.{ReadsVersion}
+use Rattle.line_account.specs.Deeds.{PrintsBegunVersion, TellsBegun}
+use Rattle.line_account.specs.Lines.{Served, closes, opens, reading, url_at}
+use Rattle.line_account.specs.Order.{NotBelow, counts_as, epochs_told, printed}
 use Rattle.line_account.specs.Stopping.{ReadsBehind, answered_more, answers_more, is_end, is_halted, is_other_url}
 use Rattle.line_account.specs.Rules.{KeepsRules}
+use Rattle.line_account.proofs.Ordering.{doom_counts, doom_finds}
 
 module _ {X : Type 0} (r : Run X) (script : List Line) (u v w : Worker) (rules : KeepsRules r script (u ∷ v ∷ w ∷ [])) (p a b c d g : Served) (us : u.served ≡ a ∷ p ∷ []) (vs : v.served ≡ c ∷ b ∷ []) (ws : w.served ≡ g ∷ d ∷ [])
     (m n : ℕ) (aq : a.asked.request ≡ Mark m) (bq : b.asked.request ≡ Await m) (ba : b.answer ≡ answer.Met) (cq : c.asked.request ≡ Mark n) (dq : d.asked.request ≡ Await n) (da : d.answer ≡ answer.Met) where
@@ -53,11 +56,12 @@ module _ {X : Type 0} (r : Run X) (script : List Line) (w : Worker) (rules : Kee
       (own (record { later = []; split = refl }))
       (record { at = record { url = url; named_is = first; anchor = refl }; counts = counts })
 
-  pub never_twice : (p s : Served) (url : List ℕ) (e : Epoch) → w.served ≡ s ∷ p ∷ [] → p.asked.request ≡ Purge url → s.asked.request ≡ Purge url → p.answer ≡ answer.Purged e → s.answer ≡ answer.Purged e → e.doom ≡ true → ⊥
-  never_twice p s url e is pq sq pa sa doom =
+  -- what a line told doomed no later line of the URL tells so again
+  pub never_twice : (p s : Served) (url : List ℕ) (e : Epoch) → w.served ≡ s ∷ p ∷ [] → url_at [] p.asked.request ≡ Some url → url_at (p ∷ []) s.asked.request ≡ Some url → TellsDoom p.answer e → TellsDoom s.answer e → e.doom ≡ true → ⊥
+  never_twice p s url e is first second before again doom =
       let n : ℕ = epoch_number e in
-      let order = in_order p s url n is (ap (url_at []) pq) (ap (url_at (p ∷ [])) sq) (subst (λ (z : Answer). Contains (counts_as z) n) (sym pa) (0, omega arith, refl)) in
-      let undoomed : doom_of n ≡ 0 = order.undoomed (version_of n) (subst (λ (z : Answer). FindsOrStores z (version_of n)) (sym sa) refl) refl in
+      let order = in_order p s url n is first second (doom_counts p.answer e before) in
+      let undoomed : doom_of n ≡ 0 = order.undoomed (version_of n) (doom_finds s.answer e again) refl in
       let doomed : doom_of n ≡ 1 = doom_of-epoch_number e ∙ ap doom_number doom in
       omega arith
 
@@ -110,3 +114,23 @@ module _ {X : Type 0} (r : Run X) (script : List Line) (w : Worker) (rules : Kee
     pub still_halted : (bytes : List ℕ) → e.answer ≡ answer.Halted bytes → m.answer ≡ answer.Halted []
     unfolding behind
     still_halted bytes ea = rules.tabs.behind_halted 0 (behind is_halted o e m url x is oq oa eq (ap is_halted ea) mq)
+
+-- A `put` that printed STORED, and one behind it of which the worker knew.
+module _ {X : Type 0} (r : Run X) (script : List Line) (crew : List Worker) (rules : KeepsRules r script crew) (p q : Served) (url other : List ℕ) (body next : Body) (x y : ℕ)
+    (pq : p.asked.request ≡ Put url body) (pa : p.answer ≡ answer.Stored x) (qq : q.asked.request ≡ Put other next) (qa : q.answer ≡ answer.Stored y) where
+  -- it began its version
+  told_so : PrintsBegunVersion r.setting.anchors q (home r other) y
+  told_so = record {
+    anchor = record { url = other; named_is = ap url_in qq; anchor = refl };
+    told = subst (λ (z : Request). TellsBegun z q.answer y) (sym qq) (subst (λ (z : Answer). TellsBegun (Put other next) z y) (sym qa) refl);
+  }
+
+  -- so its version is later
+  pub put_later : (j : ℕ) (w : Worker) (at : get_elem? crew j ≡ some w) (earlier : List Served) → w.served ≡ q ∷ earlier → KnewOf crew earlier p [] → x < y
+  put_later j w at earlier is knows =
+      let began = rules.versions.told (home r other) y (record { j = j; worker = w; at = at; later = []; served = q; earlier = earlier; split = is; so = told_so }) in
+      let later = rules.order.begun (home r other) (home r url) y (epoch_at x 3) p []
+      (record { j = j; worker = w; at = at; later = []; served = q; earlier = earlier; split = is; so = began })
+      knows
+      (record { at = record { url = url; named_is = ap (url_at []) pq; anchor = refl }; counts = subst (λ (z : Answer). Contains (counts_as z) (epoch_at x 3)) (sym pa) (0, omega arith, refl) }) in
+      omega arith

@@ -14,13 +14,12 @@ use Rattle.script_text.specs.declared.request.Request.TheVariants.{More, OpenTab
 use Rattle.core_model.specs.Anchors.{opening_counter}
 use Rattle.line_account.specs.Alone.{alone, home}
 use Rattle.line_account.specs.Answers.{IsWhole, Reads, Run, bytes_of_tab, bytes_with}
-use Rattle.line_account.specs.Closing.{HaltedIn, LineIn, TellsBegunIn, Worker}
+use Rattle.line_account.specs.Closing.{HaltedIn, TellsBegunIn, Worker}
 use Rattle.line_account.specs.Deeds.{Began, Begins, TellsBegun}
 use Rattle.script_text.specs.Requests.{url_in}
 use Rattle.line_account.specs.Lines.{Offers, Served, begins, bytes_given, bytes_in, closes, ends, gives_up, given_by, opened_of, opens, reading, writing}
 use Rattle.line_account.specs.Order.{Opens}
-use Rattle.line_account.specs.Printed.{Finds, ReadsVersion, TellsFound}
-use Rattle.line_account.specs.Tabs.{ReadsHalted, ReadsOn}
+use Rattle.line_account.specs.Printed.{ReadsVersion, TellsFound}
 use Rattle.line_account.specs.Rules.{KeepsRules}
 
 one_of_two : (s t : Served) (later earlier : List Served) (x : Served) → s ∷ t ∷ [] ≡ later ++ x ∷ earlier → (s ≡ x) ⊎ (t ≡ x)

@@ -18,7 +18,7 @@ use Rattle.script_text.specs.declared.answer.Answer.{Answer}
 use Rattle.script_text.specs.declared.answer.Answer.TheVariants as answer
 use Rattle.script_text.specs.declared.request.Request.{Request}
 use Rattle.script_text.specs.declared.request.Request.TheVariants.{Begin, Put, Save}
-use Rattle.line_account.specs.Deeds.{Began, BeganAndEnded, BeganOnTab, Begins, Halts, IsDeedOf, IsDeedOfEnd, IsWriting, PrintsBegun, PrintsBegunVersion, Purges, TellsBegun, TellsEnded}
+use Rattle.line_account.specs.Deeds.{Began, BeganAndEnded, BeganOnTab, Begins, Halts, IsDeedOf, IsDeedOfEnd, IsWriting, PrintsBegun, PrintsBegunVersion, Purges, TellsBegun, TellsEnded, WipesInVain}
 use Rattle.line_account.specs.Answers.{Run}
 use Rattle.line_account.specs.Accounts.{epochs_of}
 use Rattle.line_account.specs.Closing.{BegunIn, Closed, HaltedIn, IsSameLine, LineIn, PrintsDoomed, PrintsHalted, PurgedIn, PurgesVersion, ShownIn, SomeHalted, StoredIn, Stores, Worker, offered}
@@ -190,12 +190,12 @@ module _ {X : Type 0} (r : Run X) (crew : List Worker) (c : Closed r crew) where
   halted_by a e p four = halted_in a (version_of e) (known_halted r.setting c.state c.sound a e (shown_known r crew c a e p) four)
 
   pub purged_by : (a e : ℕ) → ShownIn r crew a e → doom_of e ≡ 1 → PurgedIn r crew a (version_of e)
-  purged_by a e p doom = by_line r crew c (DoomedVersion a (version_of e)) (λ earlier s. PurgesVersion r.setting.anchors s a (version_of e))
-      (λ v d earlier s q h. record {
-        epoch = d.epoch;
-        purges = subst (λ (b : ℕ). Purges r.setting.anchors s b d.epoch) q.1 (h.doomed q.0);
-        version_is = q.2;
-      })
+  purged_by a e p doom = by_line r crew c (DoomedVersion a (version_of e))
+      (λ earlier s. PurgesVersion r.setting.anchors s a (version_of e) ⊎ WipesInVain r.setting.anchors s a)
+      (λ v d earlier s q h. ⊎_elim
+      (λ (p : Purges r.setting.anchors s d.anchor d.epoch). inl (record { epoch = d.epoch; purges = subst (λ (b : ℕ). Purges r.setting.anchors s b d.epoch) q.1 p; version_is = q.2 }))
+      (λ (p : WipesInVain r.setting.anchors s d.anchor). inr (subst (λ (b : ℕ). WipesInVain r.setting.anchors s b) q.1 p))
+      (h.doomed q.0))
       (λ d served q h. h.doomed q.0)
       (c.sound.anchors.deeds.doomed a e (shown_known r crew c a e p) doom)
 

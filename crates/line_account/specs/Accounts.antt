@@ -16,12 +16,12 @@ use Rattle.core_model.specs.declared.view.View.{View}
 use Rattle.core_model.specs.Anchors.{opening_epoch}
 use Rattle.core_model.specs.Layout.{Setting}
 use Rattle.core_model.specs.Trails.{drawn, draws, has_drawn, is_drawn}
-use Rattle.line_account.specs.Lines.{Fits, IsAt, Offers, Served, Writes, gives_up, offers}
+use Rattle.line_account.specs.Lines.{Fits, IsAt, Offers, Served, Writes, begun_by, gives_up, offers}
 use Rattle.line_account.specs.Requests.{IsAnswerTo}
 use Rattle.line_account.specs.Stopping.{ReadsBehind, is_end, is_halted, is_other_url}
 use Rattle.line_account.specs.Deeds.{Began, Grows, HasLine, IsWriting}
 use Rattle.line_account.specs.Answers.{ComesIn, HasAdded, HasGiven, HasHit, HasOpened, HasOther, HasPurged, IsBusy, IsCauseOf, IsKeyRead}
-use Rattle.line_account.specs.Answers.{IsLarge, IsLong, IsOfOpened, IsSmall, IsSpent, Reads, Refuses, Run}
+use Rattle.line_account.specs.Answers.{IsLarge, IsLong, IsOfOpened, IsSmall, IsSpent, Reads, Refuses, Run, TellsDoom}
 use Rattle.lock_word.specs.declared.stage.Stage.TheVariants.{Appending, Closed, Halted, Taken}
 use Rattle.line_account.specs.EpochNames.{IsAtStage, closed_and_doomed, undoomed_at}
 use Rattle.line_account.specs.ScriptOrder.{◌followed_by◌, ◌then◌}
@@ -34,8 +34,8 @@ epoch_in (Leaving e) = e
 epoch_in (OtherKey e key) = e
 
 -- The epochs that an answer shows, as numbers. Of a version that is printed alone they are: at STORED and DOOMED the epoch of the whole
--- entry, at BEGUN that of the entry that has no slot yet, and at OPEN and HIT the one at which the entry was opened. At PURGED it is the
--- one at which the entry was found, beside that which its doom left, and at HALTED the one looked at last.
+-- entry, at BEGUN that of the entry that has no slot yet, and at OPEN and HIT the one at which the entry was opened. At PURGED,
+-- WIPED and LATER it is the one at which the entry was found, beside that which its doom left, and at HALTED the one looked at last.
 abbrev pub epochs_of : (opened looked : ℕ) → Answer → List ℕ
 epochs_of opened looked (answer.Stored version) = undoomed_at Closed version ∷ []
 epochs_of opened looked (answer.Doomed version) = closed_and_doomed version ∷ []
@@ -46,6 +46,8 @@ epochs_of opened looked (answer.Hit version bytes) = opened ∷ []
 epochs_of opened looked (answer.Halted bytes) = looked ∷ []
 epochs_of opened looked (answer.Part epoch bytes) = epoch_number epoch ∷ []
 epochs_of opened looked (answer.Purged epoch) = opened ∷ epoch_number epoch ∷ []
+epochs_of opened looked (answer.Wiped epoch) = opened ∷ epoch_number epoch ∷ []
+epochs_of opened looked (answer.Later epoch) = opened ∷ epoch_number epoch ∷ []
 epochs_of opened looked (answer.Miss cause) = epoch_number (epoch_in cause) ∷ []
 epochs_of opened looked (answer.NoEntry cause) = epoch_number (epoch_in cause) ∷ []
 epochs_of opened looked _ = []
@@ -98,7 +100,7 @@ pub record Tells {X : Type 0} (r : Run X) (v : View X) (earlier : List Served) (
   pub drew : s.drew ≢ None → offers s.asked.request ≡ true  -- only a line that offers a body draws a version
   pub began : (x : ℕ) → Began s.asked.request s.answer x → HasBegun s  -- and it drew the version that it began
   pub finished : (x : ℕ) → (s.answer ≡ answer.Stored x) ⊎ (s.answer ≡ answer.Doomed x) → HasFinished r.setting v earlier s x
-  pub gave_up : gives_up s.answer ≡ true → HasGivenUp r.setting.anchors v earlier s
+  pub gave_up : begun_by earlier s ≢ None → gives_up s.answer ≡ true → HasGivenUp r.setting.anchors v earlier s  -- one that writes an entry
   pub full : s.answer ≡ answer.Full → r.fits ≡ false  -- a slot was wanting
   pub large : s.answer ≡ answer.Large → IsLarge r earlier s  -- nor may the entry have as many slots as its body needs
   -- it may have as many, where its body was stored
@@ -121,7 +123,7 @@ pub record Tells {X : Type 0} (r : Run X) (v : View X) (earlier : List Served) (
   pub part : (e : Epoch) (bytes : List ℕ) → s.answer ≡ answer.Part e bytes → IsAtStage Appending (epoch_number e)
   pub halted_version : (bytes : List ℕ) → s.answer ≡ answer.Halted bytes → IsOfOpened earlier s s.looked
   pub part_version : (e : Epoch) (bytes : List ℕ) → s.answer ≡ answer.Part e bytes → IsOfOpened earlier s (epoch_number e)
-  pub purged : (e : Epoch) → s.answer ≡ answer.Purged e → HasPurged r v s e
+  pub purged : (e : Epoch) → TellsDoom s.answer e → HasPurged r v s e
   pub added : (count : ℕ) → s.answer ≡ answer.Added count → HasAdded r v earlier s count
   pub given : IsTrue r.tells → Reads s.answer → HasGiven r v earlier s
   pub tab : (s.answer ≡ answer.Tab) ↔ ¬ Fits earlier s.asked.request  -- exactly where its tab is not as it needs it

@@ -92,6 +92,14 @@ pub record IsOvertaken (looked other : Word) : Type 0 where
   -- at the second one its word was another one
   pub differs : other ≢ looked
 
+-- How many readers a word of an anchor may count, as one of so many workers finds it, of whose own tabs so many read there: these tabs, and
+-- nine at most of each other worker.
+pub record AreCounted (workers own readers : ℕ) : Type 0 where
+  -- the worker's own tabs are counted
+  pub least : own ≤ readers
+  -- and no more than the tabs of the others beside them
+  pub most : readers ≤ own + 9 * (workers - 1)
+
 pub record IsBusy {X : Type 0} (r : Run X) (v : View X) (earlier : List Served) (s : Served) (looked other : Word) : Type 0 where
   pub cause : IsHeld looked other ⊎ IsOvertaken looked other
   pub rises : epoch_number looked.epoch ≤ epoch_number other.epoch
@@ -99,6 +107,10 @@ pub record IsBusy {X : Type 0} (r : Run X) (v : View X) (earlier : List Served) 
   pub met : (a : ℕ) → IsAt r.setting.anchors earlier s a
       → (readers_at r.setting.anchors earlier a < looked.readers) ⊎ (readers_at r.setting.anchors earlier a < other.readers)
       → Contains v.met a
+  -- each word counts the worker's own tabs, and at most all tabs of the others
+  pub counted : (a : ℕ) → IsAt r.setting.anchors earlier s a
+      → AreCounted r.setting.passes (readers_at r.setting.anchors earlier a) looked.readers
+      × AreCounted r.setting.passes (readers_at r.setting.anchors earlier a) other.readers
 
 -- LONGURL
 pub record IsLong {X : Type 0} (r : Run X) (s : Served) : Type 0 where
@@ -206,7 +218,14 @@ pub record HasOpened {X : Type 0} (r : Run X) (v : View X) (s : Served) : Type 0
   pub entry : IsEntryAt r v (anchor_of (key_of url) r.setting.anchors) s.opened url
   pub told : ComesIn s.asked.request s.answer (version_of s.opened)
 
--- PURGED: the entry was found at an epoch at which it may be read, of the version that was doomed, with the key of the line's URL. The doom
+-- the answers that tell which epoch the doom of an entry left: PURGED, WIPED and LATER
+abbrev pub TellsDoom : Answer → Epoch → Type 0
+TellsDoom (answer.Purged epoch) e = epoch ≡ e
+TellsDoom (answer.Wiped epoch) e = epoch ≡ e
+TellsDoom (answer.Later epoch) e = epoch ≡ e
+TellsDoom _ e = ⊥
+
+-- PURGED, WIPED and LATER: the entry was found at an epoch at which it may be read, of the version that was doomed, with the key of the line's URL. The doom
 -- left it at APPENDING, CLOSED or HALTED.
 pub record HasPurged {X : Type 0} (r : Run X) (v : View X) (s : Served) (e : Epoch) : Type 0 where
   pub doomed : e.doom ≡ true

@@ -11,7 +11,7 @@ use Rattle.core_model.specs.Sound.{Sound}
 use Rattle.core_model.specs.State.{State}
 use Rattle.core_model.specs.Tabs.{IsPass}
 use Rattle.line_account.specs.Lines.{IsAt, Served, Writes, offers}
-use Rattle.line_account.specs.Deeds.{Begins, Halts, IsWriting, PrintsBegunVersion, Purges}
+use Rattle.line_account.specs.Deeds.{Begins, Halts, IsWriting, PrintsBegunVersion, Purges, WipesInVain}
 use Rattle.line_account.specs.Accounts.{Account, Shows}
 use Rattle.line_account.specs.Answers.{Run}
 use Rattle.lock_word.specs.declared.stage.Stage.TheVariants.{Halted}
@@ -118,7 +118,7 @@ pub record HaltedAtEnd {X : Type 0} (r : Run X) (crew : List Worker) (a x : ℕ)
 abbrev pub HaltedIn : {X : Type 0} → Run X → List Worker → (a x : ℕ) → Type 0
 HaltedIn r crew a x = LineIn crew (λ earlier s. Halts r.setting.anchors earlier s a x) ⊎ HaltedAtEnd r crew a x
 
--- a line purged the version x at the anchor a
+-- a line purged or wiped the version x at the anchor a, and told it
 pub record PurgesVersion (anchors : ℕ) (s : Served) (a x : ℕ) : Type 0 where
   -- an epoch
   pub epoch : ℕ
@@ -127,8 +127,9 @@ pub record PurgesVersion (anchors : ℕ) (s : Served) (a x : ℕ) : Type 0 where
   -- of this version
   pub version_is : version_of epoch ≡ x
 
+-- or one wiped there and printed FAULT
 abbrev pub PurgedIn : {X : Type 0} → Run X → List Worker → (a x : ℕ) → Type 0
-PurgedIn r crew a x = LineIn crew (λ earlier s. PurgesVersion r.setting.anchors s a x)
+PurgedIn r crew a x = LineIn crew (λ earlier s. PurgesVersion r.setting.anchors s a x ⊎ WipesInVain r.setting.anchors s a)
 
 -- a line at the anchor a printed HALTED
 pub record PrintsHalted (anchors : ℕ) (earlier : List Served) (s : Served) (a : ℕ) : Type 0 where

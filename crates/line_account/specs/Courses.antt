@@ -11,7 +11,7 @@ use Rattle.core_model.specs.Knowing.{KnowsAll}
 use Rattle.core_model.specs.Trails.{drawn, draws, seen_at}
 use Rattle.core_model.specs.Versions.{Leads}
 use Rattle.line_account.specs.Lines.{Served}
-use Rattle.line_account.specs.Deeds.{IsDeedOf, IsDeedOfEnd, IsWriting, PrintsBegunVersion}
+use Rattle.line_account.specs.Deeds.{Begins as BeginsVersion, IsDeedOf, IsDeedOfEnd, IsWriting}
 use Rattle.line_account.specs.Answers.{HasPart, Run}
 use Rattle.line_account.specs.Accounts.{HasHalted, Shows, Tells, drew_some, drew_version}
 use Rattle.line_account.specs.ScriptOrder.{◌then◌}
@@ -22,7 +22,7 @@ one_if b = cond b 1 0
 
 -- What the line s adds, after these lines, where the worker had the view v before it and has w after it: it draws what it says, each new
 -- deed is its own, each epoch that it shows is not below what the worker had seen there, and of one version its stage does not fall, a
--- version that it began is later, and it tells what it should.
+-- version that it began is later than each that the worker had seen, and it tells what it should.
 pub record Adds {X : Type 0} (r : Run X) (v : View X) (earlier : List Served) (s : Served) (w : View X) : Type 0 where
   pub keeps : KnowsAll v w
   pub drawn : (x : ℕ) → drawn x w.trail ≡ one_if (drew_version x s) + drawn x v.trail
@@ -32,8 +32,8 @@ pub record Adds {X : Type 0} (r : Run X) (v : View X) (earlier : List Served) (s
   -- of one version the stage that it shows is one to which those lead that the worker had seen there
   pub stages : (a d e : ℕ) → Shows r.setting.anchors earlier s a e → Contains v.seen (Stood a d) → version_of d ≡ version_of e
       → Leads (stage_of d) (stage_of e)
-  -- a version that it began is later than what the worker had seen there
-  pub above : (a x : ℕ) → PrintsBegunVersion r.setting.anchors s a x → version_of (seen_at a v.seen) < x
+  -- a version that it began is later than what the worker had seen, at whatever anchor
+  pub above : (a b x : ℕ) → BeginsVersion r.setting.anchors s a x → version_of (seen_at b v.seen) < x
   pub tells : Tells r w earlier s
   -- PART gives what the worker had seen published
   pub parts : IsTrue r.tells → (e : Epoch) (bytes : List ℕ) → s.answer ≡ answer.Part e bytes → HasPart r v w earlier s (epoch_number e)

@@ -8,7 +8,7 @@ use Rattle.script_text.specs.Shapes.{Shape, shape_of}
 use Rattle.script_text.specs.declared.answer.Answer.{Answer}
 use Rattle.script_text.specs.declared.answer.Answer.TheVariants as answer
 use Rattle.script_text.specs.declared.request.Request.{Request}
-use Rattle.script_text.specs.declared.request.Request.TheVariants.{Purge}
+use Rattle.script_text.specs.declared.request.Request.TheVariants.{Wipe}
 use Rattle.core_model.specs.declared.moves.Side.TheVariants.{Key0, Key1, Offer}
 use Rattle.core_model.specs.declared.view.Deed.{Deed}
 use Rattle.core_model.specs.declared.view.Kind.TheVariants.{Changed, Doomed, Entered, Raised}
@@ -17,7 +17,7 @@ use Rattle.core_model.specs.declared.view.View.{View}
 use Rattle.core_model.specs.Layout.{Setting}
 use Rattle.script_text.specs.Requests.{url_in}
 use Rattle.line_account.specs.Lines.{IsAnchorOf, IsWritingOf, LineOf, Served, Writes, gives_up, writing}
-use Rattle.line_account.specs.Answers.{Run}
+use Rattle.line_account.specs.Answers.{Run, TellsDoom}
 use Rattle.lock_word.specs.declared.stage.Stage.TheVariants.{Appending, Closed, Freeing, Gone, Halted, Taken}
 use Rattle.line_account.specs.EpochNames.{IsAtStage, IsDoomed, IsUndoomed}
 
@@ -118,19 +118,33 @@ pub record PrintsBegunVersion (anchors : ℕ) (s : Served) (a x : ℕ) : Type 0 
   pub told : TellsBegun s.asked.request s.answer x
 
 -- The answers to a line that came so far that it needed slots, and may have had to evict an entry for one: STORED, DOOMED, ADDED, FULL,
--- LARGE and FAULT. A line that printed BUSY, SPENT, LONGURL or TAB was refused before, and `begin` needs none.
-abbrev pub MayEvict : Answer → Type 0
-MayEvict (answer.Stored version) = Unit {0}
-MayEvict (answer.Doomed version) = Unit {0}
-MayEvict (answer.Added count) = Unit {0}
-MayEvict answer.Full = Unit {0}
-MayEvict answer.Large = Unit {0}
-MayEvict answer.Fault = Unit {0}
-MayEvict _ = ⊥
+-- LARGE and FAULT. A line that printed BUSY, SPENT, LONGURL or TAB was refused before.
+abbrev pub NeededSlots : Answer → Type 0
+NeededSlots (answer.Stored version) = Unit {0}
+NeededSlots (answer.Doomed version) = Unit {0}
+NeededSlots (answer.Added count) = Unit {0}
+NeededSlots answer.Full = Unit {0}
+NeededSlots answer.Large = Unit {0}
+NeededSlots answer.Fault = Unit {0}
+NeededSlots _ = ⊥
+
+-- A line with this request and this answer may have evicted an entry. Only one that goes on writing needs slots: `begin` needs none.
+abbrev pub MayEvict : Request → Answer → Type 0
+MayEvict request a = of_shape (shape_of request)
+  where
+    of_shape : Shape → Type 0
+    of_shape (Shape.Stores url body durable) = NeededSlots a
+    of_shape (Shape.Reads url) = ⊥
+    of_shape (Shape.Purges url) = ⊥
+    of_shape (Shape.Begins tab url body) = ⊥
+    of_shape (Shape.Opens tab url) = ⊥
+    of_shape (Shape.WritesOn tab) = NeededSlots a
+    of_shape (Shape.ReadsOn tab) = ⊥
+    of_shape (Shape.AtMark mark) = ⊥
 
 -- a line that evicted an entry, in a run that does not fit
 pub record Evicts {X : Type 0} (r : Run X) (s : Served) : Type 0 where
-  pub may : MayEvict s.answer
+  pub may : MayEvict s.asked.request s.answer
   pub wants : r.fits ≡ false
 
 -- what the worker knows of the entry of version x, at the anchor a, that a line of its own began: its key and its offer
@@ -158,20 +172,27 @@ pub record Halts (anchors : ℕ) (earlier : List Served) (s : Served) (a x : ℕ
   -- it printed FULL, LARGE, FAULT or DROPPED
   pub gave_up : gives_up s.answer ≡ true
 
--- a line that purged the entry at the anchor a, and left this epoch
+-- a line that purged or wiped the entry at the anchor a, and told that it left this epoch
 pub record Purges (anchors : ℕ) (s : Served) (a e : ℕ) : Type 0 where
   -- a URL
   pub url : List ℕ
-  -- that the line purges
-  pub request : s.asked.request ≡ Purge url
+  -- that the line purges or wipes
+  pub request : shape_of s.asked.request ≡ Shape.Purges url
   -- whose anchor it is
   pub anchor : a ≡ anchor_of (key_of url) anchors
   -- the epoch that is printed
   pub epoch : Epoch
-  -- by PURGED
-  pub answered : s.answer ≡ answer.Purged epoch
+  -- by PURGED, WIPED or LATER
+  pub answered : TellsDoom s.answer epoch
   -- as a number
   pub epoch_is : epoch_number epoch ≡ e
+
+-- a `wipe` of a URL of the anchor a that printed FAULT: it doomed an entry, and does not tell which version
+pub record WipesInVain (anchors : ℕ) (s : Served) (a : ℕ) : Type 0 where
+  pub url : List ℕ
+  pub request : s.asked.request ≡ Wipe url
+  pub anchor : a ≡ anchor_of (key_of url) anchors
+  pub answered : s.answer ≡ answer.Fault
 
 -- The deed belongs to the line s, which has these before it; v is what its worker knows. It entered an anchor, or changed, raised or
 -- doomed one, and each of these has the lines that may do so.
@@ -185,7 +206,7 @@ pub record IsDeedOf {X : Type 0} (r : Run X) (v : View X) (d : Deed) (earlier : 
       → Grows r.setting v earlier s d.anchor (version_of d.epoch)
   pub closed : d.kind ≡ Raised → IsAtStage Closed d.epoch → Finishes s.answer d.epoch
   pub halted : d.kind ≡ Raised → IsAtStage Halted d.epoch → Halts r.setting.anchors earlier s d.anchor (version_of d.epoch)
-  pub doomed : d.kind ≡ Doomed → Purges r.setting.anchors s d.anchor d.epoch
+  pub doomed : d.kind ≡ Doomed → Purges r.setting.anchors s d.anchor d.epoch ⊎ WipesInVain r.setting.anchors s d.anchor
   pub with_doom : d.kind ≡ Doomed → IsDoomed d.epoch
 
 -- some tab writes the version x at the anchor a after these lines

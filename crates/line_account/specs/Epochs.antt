@@ -2,9 +2,8 @@
 use Rattle.std.specs.Prelude.{IsTrue, List, true, ◌<◌, ◌≡◌, ◌≤◌, ◌⊎◌, ℕ}
 use Rattle.lock_word.specs.Words.{epoch_number, stage_of, version_of}
 use Rattle.lock_word.specs.declared.epoch.Epoch.{Epoch}
-use Rattle.script_text.specs.declared.answer.Answer.TheVariants as answer
 use Rattle.core_model.specs.Anchors.{opening_counter, opening_epoch}
-use Rattle.line_account.specs.Answers.{Run}
+use Rattle.line_account.specs.Answers.{Run, TellsDoom}
 use Rattle.line_account.specs.Closing.{BegunIn, HaltedIn, LineIn, PrintsDoomed, PrintsHalted, PurgedIn, ShownIn, SomeHalted, StoredIn}
 use Rattle.line_account.specs.Closing.{Worker}
 use Rattle.line_account.specs.Order.{PrintsAlone}
@@ -34,7 +33,7 @@ module _ {X : Type 0} (r : Run X) (crew : List Worker) where
     -- or a version that a line began there
     pub alone_new : (a x : ℕ) → LineIn crew (λ earlier s. PrintsAlone r.setting.anchors earlier s a x) → opening_counter r.setting < x
         → BegunIn r crew a x
-    -- and OPEN, HIT, PURGED and the PART of a `get` have a version of the opening only where the anchor had an entry then
+    -- and OPEN, HIT, PURGED, WIPED, LATER and the PART of a `get` have a version of the opening only where the anchor had an entry then
     pub found_old : (a x : ℕ) (url : List ℕ) → LineIn crew (λ earlier s. Finds r.setting.anchors s a x url) → x ≤ opening_counter r.setting
         → HadEntry r a
     -- a begun version is CLOSED and not doomed only where its writing printed STORED
@@ -44,16 +43,16 @@ module _ {X : Type 0} (r : Run X) (crew : List Worker) where
     pub halted : (a e : ℕ) → ShownIn r crew a e → IsAtStage Halted e → HaltedIn r crew a (version_of e)
     -- HALTED is printed only where a writing at the anchor was halted
     pub halted_line : (a : ℕ) → LineIn crew (λ earlier s. PrintsHalted r.setting.anchors earlier s a) → SomeHalted r crew a
-    -- an epoch is doomed only where a line printed PURGED with the version
+    -- an epoch is doomed only where a line printed PURGED, WIPED or LATER with the version, or a `wipe` there printed FAULT
     pub doomed : (a e : ℕ) → ShownIn r crew a e → IsDoomed e → PurgedIn r crew a (version_of e)
-    -- DOOMED is printed only where a line printed PURGED with the version
+    -- and so is DOOMED printed
     pub doomed_line : (a x : ℕ) → LineIn crew (λ earlier s. PrintsDoomed r.setting.anchors earlier s a x) → PurgedIn r crew a x
     -- a doomed epoch is at APPENDING or later
     pub doomed_stage : (a e : ℕ) → ShownIn r crew a e → IsDoomed e → IsFromStage Appending e
-    -- the epoch of PURGED is doomed
-    pub purged : (e : Epoch) → LineIn crew (λ earlier s. s.answer ≡ answer.Purged e) → e.doom ≡ true
+    -- the epoch of PURGED, WIPED and LATER is doomed
+    pub purged : (e : Epoch) → LineIn crew (λ earlier s. TellsDoom s.answer e) → e.doom ≡ true
     -- and it is at APPENDING, CLOSED or HALTED
-    pub purged_stage : (e : Epoch) → LineIn crew (λ earlier s. s.answer ≡ answer.Purged e)
+    pub purged_stage : (e : Epoch) → LineIn crew (λ earlier s. TellsDoom s.answer e)
         → IsFromStage Appending (epoch_number e) × IsUpToStage Halted (epoch_number e)
     -- An epoch at HALTED, FREEING or GONE is not doomed only where the writing of its version was halted; or the run does not fit, some
     -- line may have evicted an entry, for it printed STORED, DOOMED, ADDED, FULL, LARGE or FAULT, and its own was whole.

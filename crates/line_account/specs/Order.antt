@@ -17,6 +17,8 @@ abbrev pub printed : Answer → List ℕ
 printed (answer.Busy first second) = epoch_number first.epoch ∷ epoch_number second.epoch ∷ []
 printed (answer.Part epoch bytes) = epoch_number epoch ∷ []
 printed (answer.Purged epoch) = epoch_number epoch ∷ []
+printed (answer.Wiped epoch) = epoch_number epoch ∷ []
+printed (answer.Later epoch) = epoch_number epoch ∷ []
 printed (answer.Miss cause) = epoch_number (epoch_in cause) ∷ []
 printed (answer.NoEntry cause) = epoch_number (epoch_in cause) ∷ []
 printed _ = []
@@ -40,6 +42,8 @@ counts_as (answer.Begun version) = undoomed_at Taken version ∷ []
 counts_as (answer.Busy first second) = epoch_number first.epoch ∷ epoch_number second.epoch ∷ []
 counts_as (answer.Part epoch bytes) = epoch_number epoch ∷ []
 counts_as (answer.Purged epoch) = epoch_number epoch ∷ []
+counts_as (answer.Wiped epoch) = epoch_number epoch ∷ []
+counts_as (answer.Later epoch) = epoch_number epoch ∷ []
 counts_as (answer.Miss cause) = epoch_number (epoch_in cause) ∷ []
 counts_as (answer.NoEntry cause) = epoch_number (epoch_in cause) ∷ []
 counts_as _ = []
@@ -62,6 +66,8 @@ abbrev pub FindsEntry : Answer → ℕ → Type 0
 FindsEntry (answer.Opened version) x = version ≡ x
 FindsEntry (answer.Hit version bytes) x = version ≡ x
 FindsEntry (answer.Purged epoch) x = version_of (epoch_number epoch) ≡ x
+FindsEntry (answer.Wiped epoch) x = version_of (epoch_number epoch) ≡ x
+FindsEntry (answer.Later epoch) x = version_of (epoch_number epoch) ≡ x
 FindsEntry _ x = ⊥
 
 -- or that one was stored
@@ -69,6 +75,8 @@ abbrev pub FindsOrStores : Answer → ℕ → Type 0
 FindsOrStores (answer.Opened version) x = version ≡ x
 FindsOrStores (answer.Hit version bytes) x = version ≡ x
 FindsOrStores (answer.Purged epoch) x = version_of (epoch_number epoch) ≡ x
+FindsOrStores (answer.Wiped epoch) x = version_of (epoch_number epoch) ≡ x
+FindsOrStores (answer.Later epoch) x = version_of (epoch_number epoch) ≡ x
 FindsOrStores (answer.Stored version) x = version ≡ x
 FindsOrStores _ x = ⊥
 

@@ -142,12 +142,15 @@ pub record PrintsOther (earlier : List Served) (s : Served) (url : List ℕ) : T
   -- and the line printed OTHERURL
   pub printed : s.answer ≡ answer.OtherUrl
 
--- the answers that tell of an entry of the version x which was found to be there: OPEN, HIT, PART and PURGED
+-- the answers that tell of an entry of the version x which was found to be there: OPEN, HIT, PART, PURGED, WIPED
+-- and LATER
 abbrev pub TellsFound : Answer → ℕ → Type 0
 TellsFound (answer.Opened version) x = version ≡ x
 TellsFound (answer.Hit version bytes) x = version ≡ x
 TellsFound (answer.Part epoch bytes) x = version_of (epoch_number epoch) ≡ x
 TellsFound (answer.Purged epoch) x = version_of (epoch_number epoch) ≡ x
+TellsFound (answer.Wiped epoch) x = version_of (epoch_number epoch) ≡ x
+TellsFound (answer.Later epoch) x = version_of (epoch_number epoch) ≡ x
 TellsFound _ x = ⊥
 
 -- a line that names this URL, of the anchor a, printed that an entry of the version x is there
@@ -193,9 +196,16 @@ pub record PrintsReaders (anchors : ℕ) (earlier : List Served) (s : Served) (a
   -- one of them has more readers than tabs of the worker read there
   pub more : (readers_at anchors earlier a < looked.readers) ⊎ (readers_at anchors earlier a < other.readers)
 
--- another worker than the one numbered j opens, gets or purges a URL of the anchor a
+-- a line at the anchor a printed BUSY with these words
+pub record PrintsBusy (anchors : ℕ) (earlier : List Served) (s : Served) (a : ℕ) (looked other : Word) : Type 0 where
+  -- the line is at work there
+  pub at : IsAt anchors earlier s a
+  -- it printed BUSY with the words
+  pub printed : s.answer ≡ answer.Busy looked other
+
+-- another worker than the one numbered j opens, gets, purges or wipes a URL of the anchor a
 pub record AnotherComes {X : Type 0} (r : Run X) (crew : List Worker) (j a : ℕ) : Type 0 where
-  -- a line that opens, gets or purges such a URL
+  -- a line that opens, gets, purges or wipes such a URL
   pub comes : LineIn crew (λ earlier s. ComesTo r.setting.anchors s.asked.request a)
   -- of another worker
   pub another : comes.j ≢ j
@@ -247,7 +257,7 @@ pub record MayGiveWay {X : Type 0} (r : Run X) (crew : List Worker) (a x : ℕ) 
   -- the run does not fit
   pub unfit : r.fits ≡ false
   -- some line may have evicted an entry, by its answer
-  pub evicts : LineIn crew (λ earlier s. MayEvict s.answer)
+  pub evicts : LineIn crew (λ earlier s. MayEvict s.asked.request s.answer)
   -- and the version was whole
   pub whole : WasWhole r crew a x
 

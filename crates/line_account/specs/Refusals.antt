@@ -10,12 +10,12 @@ use Rattle.script_text.specs.declared.body.Body.{Body}
 use Rattle.script_text.specs.declared.line.Line.{Line}
 use Rattle.core_model.specs.Anchors.{opening_counter}
 use Rattle.line_account.specs.Accounts.{epoch_in}
-use Rattle.line_account.specs.Answers.{IsCauseOf, IsLong, Refuses, Run}
+use Rattle.line_account.specs.Answers.{AreCounted, IsCauseOf, IsLong, Refuses, Run, readers_at}
 use Rattle.line_account.specs.Closing.{LineIn, Worker}
 use Rattle.line_account.specs.Lines.{Fits, Offers, Served, added}
 use Rattle.line_account.specs.Order.{FindsEntry}
 use Rattle.line_account.specs.Printed.{AnotherComes, EndsBegun, HasBusyWords, HasOtherUrl, NeedsTooMany, PrintsAdded, PrintsEnded}
-use Rattle.line_account.specs.Printed.{PrintsLarge, PrintsOther, PrintsReaders}
+use Rattle.line_account.specs.Printed.{PrintsBusy, PrintsLarge, PrintsOther, PrintsReaders}
 use Rattle.line_account.specs.Requests.{IsAnswerTo}
 use Rattle.line_account.specs.Scripts.{offering}
 use Rattle.lock_word.specs.declared.stage.Stage.TheVariants.{Appending}
@@ -53,6 +53,10 @@ module _ {X : Type 0} (r : Run X) (script : List Line) (crew : List Worker) wher
     pub busy : (looked other : Word) → LineIn crew (λ earlier s. s.answer ≡ answer.Busy looked other) → HasBusyWords looked other
     -- a word of BUSY has more readers than the worker's own tabs there only where another worker opens, gets or purges a URL of the anchor
     pub readers : (a : ℕ) → (p : LineIn crew (λ earlier s. PrintsReaders r.setting.anchors earlier s a)) → AnotherComes r crew p.j a
+    -- each word of BUSY counts all tabs of the worker that read at the anchor, and of each other worker nine tabs at most
+    pub counted : (a : ℕ) (looked other : Word) → (p : LineIn crew (λ earlier s. PrintsBusy r.setting.anchors earlier s a looked other))
+        → AreCounted (length crew) (readers_at r.setting.anchors p.earlier a) looked.readers
+        × AreCounted (length crew) (readers_at r.setting.anchors p.earlier a) other.readers
     -- the number of SPENT is at least the greatest version, and at most the counter of the opening and the number of the other lines of the
     -- script that offer a body
     pub spent : (n : ℕ) → LineIn crew (λ earlier s. s.answer ≡ answer.Spent n)

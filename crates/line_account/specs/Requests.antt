@@ -3,7 +3,7 @@ use Rattle.script_text.specs.declared.answer.Answer.{Answer}
 use Rattle.script_text.specs.declared.answer.Answer.TheVariants as answer
 use Rattle.script_text.specs.declared.request.Request.{Request}
 use Rattle.script_text.specs.declared.request.Request.TheVariants.{Add, Await, Begin, CloseTab, DropTab, End, Get, Mark, More, OpenTab}
-use Rattle.script_text.specs.declared.request.Request.TheVariants.{Purge, Put, Save}
+use Rattle.script_text.specs.declared.request.Request.TheVariants.{Purge, Put, Save, Wipe}
 
 -- the writing of a whole response
 abbrev pub AnswersPut : Answer → Type 0
@@ -30,6 +30,14 @@ abbrev pub AnswersPurge : Answer → Type 0
 AnswersPurge (answer.Purged epoch) = Unit {0}
 AnswersPurge (answer.NoEntry cause) = Unit {0}
 AnswersPurge _ = ⊥
+
+-- a purge that also erases the entry on the disk
+abbrev pub AnswersWipe : Answer → Type 0
+AnswersWipe (answer.Wiped epoch) = Unit {0}
+AnswersWipe (answer.Later epoch) = Unit {0}
+AnswersWipe (answer.NoEntry cause) = Unit {0}
+AnswersWipe answer.Fault = Unit {0}
+AnswersWipe _ = ⊥
 
 abbrev pub AnswersBegin : Answer → Type 0
 AnswersBegin (answer.Begun version) = Unit {0}
@@ -95,6 +103,7 @@ IsAnswerTo (Put url body) a = AnswersPut a
 IsAnswerTo (Save url body) a = AnswersPut a
 IsAnswerTo (Get url) a = AnswersGet a
 IsAnswerTo (Purge url) a = AnswersPurge a
+IsAnswerTo (Wipe url) a = AnswersWipe a
 IsAnswerTo (Begin tab url body) a = AnswersBegin a
 IsAnswerTo (Add tab count) a = AnswersAdd a
 IsAnswerTo (End tab) a = AnswersEnd a

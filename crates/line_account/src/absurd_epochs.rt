@@ -1,6 +1,7 @@
 //! Examples: epochs that no run shows, for the rules refuse them. Each says by which rule.
 ghost use Rattle.std.specs.Prelude.{◌≡◌, ◌≤◌, ◌∷◌, IsTrue, ℕ, List, [], false, true};
 ghost use Rattle.lock_word.specs.declared.cause.Cause.{Cause};
+ghost use Rattle.lock_word.specs.declared.epoch.Epoch.{Epoch};
 ghost use Rattle.lock_word.specs.declared.stage.Stage.TheVariants as stage;
 ghost use Rattle.lock_word.specs.declared.word.Word.{Word};
 ghost use Rattle.script_text.specs.declared.answer.Answer.{Answer};
@@ -9,7 +10,7 @@ ghost use Rattle.script_text.specs.declared.line.Line.{Line};
 ghost use Rattle.script_text.specs.declared.request.Request.{Request};
 ghost use Rattle.core_model.specs.Anchors.{opening_counter, opening_epoch};
 ghost use Rattle.line_account.specs.Alone.{alone, home};
-ghost use Rattle.line_account.specs.Answers.{Run};
+ghost use Rattle.line_account.specs.Answers.{Run, TellsDoom};
 ghost use Rattle.line_account.specs.Closing.{LineIn, Worker};
 ghost use Rattle.line_account.specs.Lines.{IsAt, Served};
 ghost use Rattle.line_account.specs.Refusals.{Any};
@@ -39,6 +40,18 @@ pub fn nothing_is_doomed_at_taken<X>()
     ensures { (r : Run X) (script : List Line) (w : Worker) (s : Served) (url : List ℕ) (x : ℕ)
         → KeepsRules r script (alone w) → w.served ≡ [] then s → s.asked.request ≡ Request.Get url
         → s.answer ≡ Answer.Miss (Cause.Writing (record { version = x; stage = stage.Taken; doom = true })) → ⊥ }
+{}
+
+/// `get` printed MISS leaving with a doomed epoch, and no line, of however many workers, printed PURGED, WIPED or LATER with its version,
+/// nor did a `wipe` print FAULT: nothing is doomed by itself (`epochs.doomed`).
+pub fn nothing_is_doomed_by_itself<X>()
+    ensures { (r : Run X) (script : List Line) (crew : List Worker) (url : List ℕ) (x : ℕ)
+        → KeepsRules r script crew
+        → LineIn crew (λ earlier s. (s.asked.request ≡ Request.Get url)
+        × (s.answer ≡ Answer.Miss (Cause.Leaving (record { version = x; stage = stage.Closed; doom = true }))))
+        → ((e : Epoch) → e.version ≡ x → LineIn crew (λ earlier s. TellsDoom s.answer e) → ⊥)
+        → ((other : List ℕ) → LineIn crew (λ earlier s. (s.asked.request ≡ Request.Wipe other) × (s.answer ≡ Answer.Fault)) → ⊥)
+        → ⊥ }
 {}
 
 /// `put` printed DOOMED at an anchor that had nothing when the store was opened, and another worker's `get` of the URL

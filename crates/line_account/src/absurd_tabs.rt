@@ -1,5 +1,6 @@
 //! Examples: what no tab is given, for the rules refuse it. Each says by which rule.
-ghost use Rattle.std.specs.Prelude.{◌≡◌, ◌≢◌, ◌∷◌, IsTrue, ℕ, List, []};
+ghost use Rattle.std.specs.Prelude.{◌≡◌, ◌≢◌, ◌<◌, ◌∷◌, IsTrue, ℕ, List, []};
+ghost use Rattle.lock_word.specs.declared.word.Word.{Word};
 ghost use Rattle.plain_model.specs.Serving.{bytes_of};
 ghost use Rattle.store_key.specs.Key.{key_of};
 ghost use Rattle.script_text.specs.declared.answer.Answer.{Answer};
@@ -48,4 +49,21 @@ pub fn nothing_stored_is_halted<X>()
         → KeepsRules r script (alone w) → w.served ≡ [] then p then o then m → p.asked.request ≡ Request.Put url body
         → p.answer ≡ Answer.Stored x → o.asked.request ≡ Request.OpenTab 0 url → o.answer ≡ Answer.Opened x
         → m.asked.request ≡ Request.More 0 → m.answer ≡ Answer.Halted bytes → ⊥ }
+{}
+
+/// `open` printed OPEN, and the same worker's `put` of the URL BUSY with a word of no reader: its own tab is counted
+/// (`answers.counted`).
+pub fn no_own_tab_is_uncounted<X>()
+    ensures { (r : Run X) (script : List Line) (w : Worker) (o p : Served) (url : List ℕ) (body : Body) (x : ℕ) (looked other : Word)
+        → KeepsRules r script (alone w) → w.served ≡ [] then o then p → o.asked.request ≡ Request.OpenTab 0 url
+        → o.answer ≡ Answer.Opened x → p.asked.request ≡ Request.Put url body → p.answer ≡ Answer.Busy looked other
+        → looked.readers ≡ 0 → ⊥ }
+{}
+
+/// Of two workers, the `put` of one that has no other line printed BUSY with more readers than the other one has tabs
+/// (`answers.counted`).
+pub fn nothing_has_more_readers_than_tabs<X>()
+    ensures { (r : Run X) (script : List Line) (u w : Worker) (p : Served) (url : List ℕ) (body : Body) (looked other : Word)
+        → KeepsRules r script (u ∷ w ∷ []) → w.served ≡ [] then p → p.asked.request ≡ Request.Put url body
+        → p.answer ≡ Answer.Busy looked other → 9 < looked.readers → ⊥ }
 {}

@@ -58,6 +58,18 @@ pub fn no_hit_follows_a_purge<X>()
         → g.served.asked.request ≡ Request.Get url → g.served.answer ≡ Answer.Hit y bytes → version_of (epoch_number e) ≡ y → ⊥ }
 {}
 
+/// Nor has one behind WIPED or LATER.
+pub fn no_hit_follows_a_wipe<X>()
+    ensures wiped { (r : Run X) (w : Worker) (start end : View X) (p g : Stage X) (url bytes : List ℕ) (e : Epoch) (y : ℕ)
+        → IsCourseOf r w start ([] then p then g) end
+        → p.served.asked.request ≡ Request.Wipe url → p.served.answer ≡ Answer.Wiped e
+        → g.served.asked.request ≡ Request.Get url → g.served.answer ≡ Answer.Hit y bytes → version_of (epoch_number e) ≡ y → ⊥ }
+    ensures later { (r : Run X) (w : Worker) (start end : View X) (p g : Stage X) (url bytes : List ℕ) (e : Epoch) (y : ℕ)
+        → IsCourseOf r w start ([] then p then g) end
+        → p.served.asked.request ≡ Request.Wipe url → p.served.answer ≡ Answer.Later e
+        → g.served.asked.request ≡ Request.Get url → g.served.answer ≡ Answer.Hit y bytes → version_of (epoch_number e) ≡ y → ⊥ }
+{}
+
 /// Behind a `put` that printed FULL, LARGE or FAULT no hit of the URL has its version: it is that of an entry
 /// of the opening.
 pub fn nothing_given_up_is_hit<X>()

@@ -25,7 +25,7 @@ ghost use Rattle.line_account.specs.Ordering.{AreInOrder, AreNotShort};
 ghost use Rattle.line_account.specs.Scripts.{ServesScript, offering};
 ghost use Rattle.line_account.specs.Idle.{idle_workers};
 ghost use Rattle.line_account.specs.Order.{FindsEntry, PrintsAlone};
-ghost use Rattle.line_account.specs.Answers.{IsCauseOf, IsLong, Refuses, Run, bytes_with};
+ghost use Rattle.line_account.specs.Answers.{AreCounted, IsCauseOf, IsLong, Refuses, Run, TellsDoom, bytes_with, readers_at};
 ghost use Rattle.core_model.specs.declared.view.Deed.{Deed};
 ghost use Rattle.core_model.specs.declared.view.Item.{Item};
 ghost use Rattle.core_model.specs.declared.view.Sight.{Sight};
@@ -35,7 +35,7 @@ ghost use Rattle.line_account.specs.Accounts.{Account, epoch_in};
 ghost use Rattle.core_model.specs.Knowing.{KnowsAll};
 ghost use Rattle.line_account.specs.Courses.{Adds, Begins as BeginsWork, Course, Leaves, Stage, lines_in};
 ghost use Rattle.line_account.specs.Steps.{IsAfter, IsIdle, IsMarkLine, IsTabLine};
-ghost use Rattle.line_account.specs.Printed.{AnotherComes, EndsBegun, AreFirstOnes, ReadsOf, GivenBackIn, HadEntry, PrintsAdded, HasBusyWords, HasOtherUrl, HitIn, IsBodyAsPrinted, IsBodyOfLine, IsKeyOfLine, IsOldBody, IsOldUrl, KeyIn, NeedsTooMany, OffersAtOnce, PrintsEnded, PrintsFinished, PrintsLarge, PrintsOther, ReadsWhole, Finds, FinishedIn, PrintsReaders};
+ghost use Rattle.line_account.specs.Printed.{AnotherComes, PrintsBusy, EndsBegun, AreFirstOnes, ReadsOf, GivenBackIn, HadEntry, PrintsAdded, HasBusyWords, HasOtherUrl, HitIn, IsBodyAsPrinted, IsBodyOfLine, IsKeyOfLine, IsOldBody, IsOldUrl, KeyIn, NeedsTooMany, OffersAtOnce, PrintsEnded, PrintsFinished, PrintsLarge, PrintsOther, ReadsWhole, Finds, FinishedIn, PrintsReaders};
 ghost use Rattle.line_account.specs.Closing.{Closed, Worker, BegunIn, TellsBegunIn, ShownIn, StoredIn, HaltedIn, PurgedIn, IsSameLine, LineIn, PrintsHalted, PrintsDoomed, SomeHalted, offered};
 ghost use Rattle.lock_word.specs.declared.stage.Stage.TheVariants as stage;
 ghost use Rattle.line_account.specs.EpochNames.{IsAtStage, IsDoomed, IsFromStage, IsUndoomed, IsUpToStage};
@@ -115,8 +115,9 @@ pub fn halted_entries_were_given_up<X>()
         → LineIn crew (λ earlier s. PrintsHalted r.setting.anchors earlier s a) → SomeHalted r crew a }
 {}
 
-/// A doomed epoch, and a DOOMED line, comes only where a line printed PURGED with its version, and such an
-/// epoch is at APPENDING or later. And the epoch of PURGED is doomed, at APPENDING, CLOSED or HALTED.
+/// A doomed epoch, and a DOOMED line, comes only where a line printed PURGED, WIPED or LATER with its version, or a
+/// `wipe` of a URL of the anchor printed FAULT; and such an epoch is at APPENDING or later. And the epoch of PURGED, WIPED
+/// and LATER is doomed, at APPENDING, CLOSED or HALTED.
 pub fn doomed_entries_were_purged<X>()
     ensures epoch { (r : Run X) (crew : List Worker) (a e : ℕ) → Closed r crew → ShownIn r crew a e → IsDoomed e
         → PurgedIn r crew a (version_of e) }
@@ -125,8 +126,8 @@ pub fn doomed_entries_were_purged<X>()
     ensures line { (r : Run X) (crew : List Worker) (a x : ℕ) → Closed r crew
         → LineIn crew (λ earlier s. PrintsDoomed r.setting.anchors earlier s a x) → PurgedIn r crew a x }
     ensures purged { (r : Run X) (crew : List Worker) (e : Epoch) → Closed r crew
-        → LineIn crew (λ earlier s. s.answer ≡ Answer.Purged e) → e.doom ≡ true }
-    ensures stage { (r : Run X) (crew : List Worker) (e : Epoch) → Closed r crew → LineIn crew (λ earlier s. s.answer ≡ Answer.Purged e)
+        → LineIn crew (λ earlier s. TellsDoom s.answer e) → e.doom ≡ true }
+    ensures stage { (r : Run X) (crew : List Worker) (e : Epoch) → Closed r crew → LineIn crew (λ earlier s. TellsDoom s.answer e)
         → IsFromStage stage.Appending (epoch_number e) × IsUpToStage stage.Halted (epoch_number e) }
 {}
 
@@ -179,9 +180,9 @@ pub fn hit_versions_were_printed<X>()
         → opening_counter r.setting < x → IsBodyAsPrinted r crew a x url bytes }
 {}
 
-/// OPEN, HIT and PURGED come of an entry that was found at an epoch of the printed version, at which it may be read. A
-/// version that OPEN, HIT, PURGED or the PART of a `get` tells is that of an entry with the key of the URL: of the one
-/// that the anchor had at the opening, which it did have, or of the line that began the version.
+/// OPEN, HIT, PURGED, WIPED and LATER come of an entry that was found at an epoch of the printed version, at which it may
+/// be read. A version that one of these or the PART of a `get` tells is that of an entry with the key of the URL: of the
+/// one that the anchor had at the opening, which it did have, or of the line that began the version.
 pub fn entries_found_were_there<X>()
     ensures opened { (r : Run X) (crew : List Worker) (x : ℕ) → Closed r crew → (p : LineIn crew (λ earlier s. FindsEntry s.answer x))
         → (version_of p.served.opened ≡ x) × (is_readable p.served.opened ≡ true) }
@@ -221,10 +222,19 @@ pub fn other_urls_have_the_key<X>()
 {}
 
 /// A word of BUSY has more readers than the worker's own tabs that read there only where another worker
-/// opens, gets or purges a URL of the anchor.
+/// opens, gets, purges or wipes a URL of the anchor.
 pub fn more_readers_come_from_others<X>()
     ensures { (r : Run X) (crew : List Worker) (a : ℕ) → Closed r crew
         → (p : LineIn crew (λ earlier s. PrintsReaders r.setting.anchors earlier s a)) → AnotherComes r crew p.j a }
+{}
+
+/// Each word of BUSY counts all tabs of the worker that read at the anchor, and of each other worker nine tabs
+/// at most.
+pub fn busy_words_count_readers<X>()
+    ensures { (r : Run X) (crew : List Worker) (a : ℕ) (looked other : Word) → Closed r crew
+        → (p : LineIn crew (λ earlier s. PrintsBusy r.setting.anchors earlier s a looked other))
+        → AreCounted (length crew) (readers_at r.setting.anchors p.earlier a) looked.readers
+        × AreCounted (length crew) (readers_at r.setting.anchors p.earlier a) other.readers }
 {}
 
 /// The number of SPENT is at least the greatest version that may be drawn, and at most the counter of the

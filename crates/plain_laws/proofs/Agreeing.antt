@@ -112,7 +112,7 @@ pub able_alike : (rename : ℕ → ℕ) (own mine : ℕ → Bool) (a : ℕ) (p q
     → (is_vacant_at p a || is_idle_at p a) ≡ (is_vacant_at q a || is_idle_at q a)
 able_alike rename own mine a p q h o = test_alike rename own mine a p q (λ e d n. (is_none e && (n == 0)) || (has_life Whole e && not d && (n == 0))) h o
 
-left_over_alike : (rename : ℕ → ℕ) (own mine : ℕ → Bool) (a : ℕ) (p q : Plain) → Agree rename own mine p q → own a ≡ true → is_left_over_at p a ≡ is_left_over_at q a
+pub left_over_alike : (rename : ℕ → ℕ) (own mine : ℕ → Bool) (a : ℕ) (p q : Plain) → Agree rename own mine p q → own a ≡ true → is_left_over_at p a ≡ is_left_over_at q a
 left_over_alike rename own mine a p q h o = test_alike rename own mine a p q (λ e d n. (has_life GivenUp e || (has_life Whole e && d)) && (n == 0)) h o
 
 -- the same is put into two lists

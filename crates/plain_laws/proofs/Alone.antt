@@ -36,7 +36,7 @@ published_le room m n some le =
     let j : (m - 1) / room * room ≤ n - 1 = omega arith in
     le-div ((m - 1) / room) (n - 1) room some j
 
-claim_free : (s : Setting) (claimed : ℕ) (p : Plain) → claimed + slots_held s p < s.slots → claim s claimed p ≡ claimed_as p true
+pub claim_free : (s : Setting) (claimed : ℕ) (p : Plain) → claimed + slots_held s p < s.slots → claim s claimed p ≡ claimed_as p true
 claim_free s claimed p h =
     let k : claimed < s.slots - slots_held s p = omega arith in
     let t : nat_lt claimed (free s p) ≡ true = grind (arith, nat_tests) in

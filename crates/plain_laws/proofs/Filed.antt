@@ -56,22 +56,35 @@ all_behind : (slot : ℕ) (images : List (List ℕ)) (anchors : ℕ) (p : Plain)
 all_behind slot images anchors p o = All-map (Behind slot images anchors p o) (kept_of images) o.is.entries
     (All-weaker (Contains o.is.entries) (λ f. Behind slot images anchors p o (kept_of images f)) (λ f h. record { file = f; among = h; is = refl }) o.is.entries (All-contains_itself o.is.entries))
 
-of_kept : (slot : ℕ) (images : List (List ℕ)) (anchors anchor : ℕ) (p : Plain) (o : IsOpened slot images anchors p) (old : Entry) → KeptThere anchors (map (kept_of images) o.is.entries) anchor old → IsOfFile slot images anchors anchor old
-of_kept slot images anchors anchor p o old there =
+-- the entry of the file that a rebuild keeps there, for which this one stands
+pub record StandsForFile (slot : ℕ) (images : List (List ℕ)) (anchors anchor : ℕ) (old : Entry) : Type 0 where
+  pub file : FileEntry
+  pub winner : IsWinner slot images anchors anchor file
+  pub entry : entry_kept (kept_of images file) ≡ old
+
+stands_for : (slot : ℕ) (images : List (List ℕ)) (anchors anchor : ℕ) (p : Plain) (o : IsOpened slot images anchors p) (old : Entry)
+    → KeptThere anchors (map (kept_of images) o.is.entries) anchor old → StandsForFile slot images anchors anchor old
+stands_for slot images anchors anchor p o old there =
     let kept : List Kept = map (kept_of images) o.is.entries in
     let behind = found_all (Behind slot images anchors p o) (λ k. anchor_of k.key anchors == anchor) kept there.found (all_behind slot images anchors p o) there.is in
     let test : (anchor_of there.found.key anchors == anchor) ≡ true = found_at (λ k. anchor_of k.key anchors == anchor) kept there.found there.is in
     let at : anchor_of there.found.key anchors ≡ anchor = grind (arith, nat_tests) in
-    let entry : entry_kept (kept_of images behind.file) ≡ old = ap entry_kept (sym behind.is) ∙ there.entry in
     let where_it_is : anchor_of behind.file.key anchors ≡ anchor = ap (λ (k : Kept). anchor_of k.key anchors) (sym behind.is) ∙ at in
     record {
       file = behind.file;
       winner = subst (λ (a : ℕ). IsWinner slot images anchors a behind.file) where_it_is (o.is.won behind.file behind.among);
-      url = ap (λ (x : Entry). x.url) (sym entry);
-      key = ap (λ (x : Entry). x.key) (sym entry);
-      body = ap (λ (x : Entry). x.body) (sym entry);
-      offer = ap (λ (x : Entry). x.offer) (sym entry);
+      entry = ap entry_kept (sym behind.is) ∙ there.entry;
     }
+
+of_kept : (slot : ℕ) (images : List (List ℕ)) (anchors anchor : ℕ) (old : Entry) → StandsForFile slot images anchors anchor old → IsOfFile slot images anchors anchor old
+of_kept slot images anchors anchor old h = record {
+  file = h.file;
+  winner = h.winner;
+  url = ap (λ (x : Entry). x.url) (sym h.entry);
+  key = ap (λ (x : Entry). x.key) (sym h.entry);
+  body = ap (λ (x : Entry). x.body) (sym h.entry);
+  offer = ap (λ (x : Entry). x.offer) (sym h.entry);
+}
 
 same_of_file : (slot : ℕ) (images : List (List ℕ)) (anchors anchor : ℕ) (old e : Entry) → SameOffer old e → IsOfFile slot images anchors anchor old → IsOfFile slot images anchors anchor e
 same_of_file slot images anchors anchor old e same h = record {
@@ -83,14 +96,18 @@ same_of_file slot images anchors anchor old e same h = record {
   offer = same.offer ∙ h.offer;
 }
 
-opened_entry : (slot : ℕ) (images : List (List ℕ)) (anchors anchor : ℕ) (p : Plain) (o : IsOpened slot images anchors p) (old : Entry) → entry_at p anchor ≡ Some old → IsOfFile slot images anchors anchor old
-opened_entry slot images anchors anchor p o old there =
+pub stands_at : (slot : ℕ) (images : List (List ℕ)) (anchors anchor : ℕ) (p : Plain) (o : IsOpened slot images anchors p) (old : Entry) → entry_at p anchor ≡ Some old
+    → StandsForFile slot images anchors anchor old
+stands_at slot images anchors anchor p o old there =
     let kept : List Kept = map (kept_of images) o.is.entries in
     let at : entry_at (opened anchors kept o.rebuilt.greatest) anchor ≡ Some old = ap (λ (q : Plain). entry_at q anchor) (sym o.store) ∙ there in
     let made : (place_kept (kept_at anchors kept (0 + anchor))).entry ≡ Some old = made_at (λ a. place_kept (kept_at anchors kept a)) old 0 anchors anchor at in
     let zero_more : anchor ≡ 0 + anchor = omega arith in
     let here : (place_kept (kept_at anchors kept anchor)).entry ≡ Some old = ap (λ (a : ℕ). (place_kept (kept_at anchors kept a)).entry) zero_more ∙ made in
-    of_kept slot images anchors anchor p o old (kept_there anchors kept anchor old (kept_at anchors kept anchor) refl here)
+    stands_for slot images anchors anchor p o old (kept_there anchors kept anchor old (kept_at anchors kept anchor) refl here)
+
+opened_entry : (slot : ℕ) (images : List (List ℕ)) (anchors anchor : ℕ) (p : Plain) (o : IsOpened slot images anchors p) (old : Entry) → entry_at p anchor ≡ Some old → IsOfFile slot images anchors anchor old
+opened_entry slot images anchors anchor p o old there = of_kept slot images anchors anchor old (stands_at slot images anchors anchor p o old there)
 
 pub of_file : (s : Setting) (slot : ℕ) (images : List (List ℕ)) (script lines : List Line) (p : Plain) (anchor : ℕ) (e : Entry) → IsOpened slot images s.anchors p → entry_at (after s script lines p) anchor ≡ Some e
     → IsOfLines s lines anchor e ⊎ IsOfFile slot images s.anchors anchor e

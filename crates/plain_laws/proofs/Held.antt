@@ -20,7 +20,7 @@ use Rattle.store_key.specs.Anchor.{anchor_of, front_half, back_half}
 use Rattle.lock_word.specs.declared.cause.Cause.{Cause}
 use Rattle.script_text.specs.declared.line.Line.{Line}
 use Rattle.script_text.specs.declared.request.Request.{Request}
-use Rattle.script_text.specs.declared.request.Request.TheVariants.{Put, Save, Get, Purge, Begin, Add, End, DropTab, OpenTab, More, CloseTab, Mark, Await}
+use Rattle.script_text.specs.declared.request.Request.TheVariants.{Put, Save, Get, Purge, Wipe, Begin, Add, End, DropTab, OpenTab, More, CloseTab, Mark, Await}
 use Rattle.plain_model.specs.Store.{meta_size, available}
 use Rattle.plain_model.specs.Writing.{settle, close_writer, taken_by, entry_of, begin, give_up}
 use Rattle.plain_model.specs.Reading.{judge, has_url, open_at, open_tab, more, close, doom_at, purge_at}
@@ -182,6 +182,7 @@ serve_holds s script w n (Put url made) p room some are h = put_holds s url (byt
 serve_holds s script w n (Save url made) p room some are h = put_holds s url (bytes_of made) (s.slots + n) p room h (anchor_inside s url p some are) (begins s 7 url (bytes_of made) (s.slots + n) p (tab_at p 7) refl)
 serve_holds s script w n (Get url) p room some are h = get_holds s url p h (opens s url p (tab_at p 7) refl)
 serve_holds s script w n (Purge url) p room some are h = purge_at_holds s (anchor_of (key_of url) s.anchors) (key_of url) p h (judge s p (anchor_of (key_of url) s.anchors) (key_of url)) refl
+serve_holds s script w n (Wipe url) p room some are h = purge_at_holds s (anchor_of (key_of url) s.anchors) (key_of url) p h (judge s p (anchor_of (key_of url) s.anchors) (key_of url)) refl
 serve_holds s script w n (Begin tab url made) p room some are h =
     begin_holds s tab url (bytes_of made) (s.slots + n) p h (anchor_inside s url p some are) (begins s tab url (bytes_of made) (s.slots + n) p (tab_at p tab) refl)
 serve_holds s script w n (Add tab count) p room some are h = add_holds s tab count p room h (tab_at p tab) refl

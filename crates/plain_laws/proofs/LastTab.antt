@@ -6,7 +6,7 @@ use Rattle.store_key.specs.Anchor.{anchor_of}
 use Rattle.script_text.specs.Tabs.{IsOnTab}
 use Rattle.script_text.specs.declared.line.Line.{Line}
 use Rattle.script_text.specs.declared.request.Request.{Request}
-use Rattle.script_text.specs.declared.request.Request.TheVariants.{Put, Save, Get, Purge, Begin, Add, End, DropTab, OpenTab, More, CloseTab, Mark, Await}
+use Rattle.script_text.specs.declared.request.Request.TheVariants.{Put, Save, Get, Purge, Wipe, Begin, Add, End, DropTab, OpenTab, More, CloseTab, Mark, Await}
 use Rattle.lock_word.specs.declared.cause.Cause.{Cause}
 use Rattle.plain_model.specs.declared.entry.Life.{Life}
 use Rattle.plain_model.specs.declared.entry.Life.TheVariants.{Whole, GivenUp}
@@ -140,6 +140,8 @@ last_free s cap script w n (Save url made) p h free on out =
     put_frees s url (bytes_of made) (s.slots + n) p free (anchor_inside s url p h.some h.are) (begins s 7 url (bytes_of made) (s.slots + n) p (tab_at p 7) refl)
 last_free s cap script w n (Get url) p h free on out = get_frees s url p free (opens s url p (tab_at p 7) refl)
 last_free s cap script w n (Purge url) p h free on out =
+    ap (λ (ts : List Tab). get_or ts 7 Free) (purge_tabs s (anchor_of (key_of url) s.anchors) (key_of url) p (judge s p (anchor_of (key_of url) s.anchors) (key_of url)) refl) ∙ free
+last_free s cap script w n (Wipe url) p h free on out =
     ap (λ (ts : List Tab). get_or ts 7 Free) (purge_tabs s (anchor_of (key_of url) s.anchors) (key_of url) p (judge s p (anchor_of (key_of url) s.anchors) (key_of url)) refl) ∙ free
 last_free s cap script w n (Begin tab url made) p h free on out = other_tab s cap tab p (Because s p (Begin tab url made)) (serve s script (record { worker = w; number = n; request = Begin tab url made }) p) on out ∙ free
 last_free s cap script w n (Add tab count) p h free on out = other_tab s cap tab p (Because s p (Add tab count)) (serve s script (record { worker = w; number = n; request = Add tab count }) p) on out ∙ free

@@ -28,6 +28,7 @@ pub mod OtherLines
 pub mod Leaving
 pub mod Parted
 pub mod Standing
+pub mod ServedAlone
 pub mod PrivateLines
 pub mod Openings
 pub mod Unwritten
@@ -36,3 +37,4 @@ pub mod Filed
 pub mod Tabbed
 pub mod InTurn
 pub mod Counted
+pub mod HeldOfFile

@@ -13,7 +13,7 @@ use Rattle.plain_model.specs.declared.store.Plain.{Plain}
 use Rattle.plain_model.specs.Place.{doomed}
 use Rattle.plain_model.specs.Store.{place_at, entry_at, tab_at, with_tab, available}
 use Rattle.plain_model.specs.Writing.{step, settle}
-use Rattle.plain_model.specs.Reading.{judge, has_url, open_at, open_tab, more, close, doom_at, purge_at, purge}
+use Rattle.plain_model.specs.Reading.{judge, has_url, open_at, open_tab, more, close, doom_at, purge_at, purge, wipe}
 use Rattle.plain_model.specs.Serving.{get}
 use Rattle.plain_laws.specs.Kept.{Keeps}
 use Rattle.plain_laws.proofs.Keeping.{keeps_refl, keeps_trans, keeps_tab, keeps_set, as_doomed, keeps_settle}
@@ -51,6 +51,9 @@ keeps_purge_at s a wanted p (Some cause) e = rw e (keeps_refl p)
 
 pub keeps_purge : (s : Setting) (url : List ℕ) (p : Plain) → Keeps p (purge s url p).after
 keeps_purge s url p = keeps_purge_at s (anchor_of (key_of url) s.anchors) (key_of url) p (judge s p (anchor_of (key_of url) s.anchors) (key_of url)) refl
+
+pub keeps_wipe : (s : Setting) (url : List ℕ) (p : Plain) → Keeps p (wipe s url p).after
+keeps_wipe s url p = keeps_purge s url p
 
 -- what opening on tab 7 comes to
 pub data Opens (s : Setting) (url : List ℕ) (p : Plain) : Type 0 where

@@ -210,7 +210,7 @@ few_published room m c some le =
     let few : published room c < m + 1 = (div-lt_iff_lt-mul some).1 below in
     omega arith
 
-entry_holds : (room slot : ℕ) (images : List (List ℕ)) (e : FileEntry) → slot ≡ room + HEADER_SIZE → IsComplete slot images e → weight room (kept_of images e) ≤ length e.chain
+pub entry_holds : (room slot : ℕ) (images : List (List ℕ)) (e : FileEntry) → slot ≡ room + HEADER_SIZE → IsComplete slot images e → weight room (kept_of images e) ≤ length e.chain
 entry_holds room slot images e is h =
     let belong = h.chain.belong in
     let first : BelongsTo slot images e.first e.first = All-head (BelongsTo slot images e.first) e.first h.chain.behind (subst (All (BelongsTo slot images e.first)) h.chain.begins belong) in

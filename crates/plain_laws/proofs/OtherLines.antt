@@ -3,7 +3,7 @@ use Rattle.std.proofs.Common.{◌≡◌, ◌⊎◌, inl, inr, ◌∙◌, ℕ, le
 use Rattle.std.specs.Prelude.{◌==◌}
 use Rattle.std.proofs.lemmas.Bool.Decides.{nat_tests}
 use Rattle.script_text.specs.declared.request.Request.{Request}
-use Rattle.script_text.specs.declared.request.Request.TheVariants.{Put, Save, Get, Purge, Begin, Add, End, DropTab, OpenTab, More, CloseTab}
+use Rattle.script_text.specs.declared.request.Request.TheVariants.{Put, Save, Get, Purge, Wipe, Begin, Add, End, DropTab, OpenTab, More, CloseTab}
 use Rattle.plain_model.specs.declared.store.Setting.{Setting}
 use Rattle.plain_model.specs.declared.store.Tab.{Tab}
 use Rattle.plain_model.specs.declared.store.Tab.TheVariants.{Free}
@@ -87,6 +87,7 @@ off_url own mine s (Put url made) a off sorts named = ap own (sym named) ∙ off
 off_url own mine s (Save url made) a off sorts named = ap own (sym named) ∙ off
 off_url own mine s (Get url) a off sorts named = ap own (sym named) ∙ off
 off_url own mine s (Purge url) a off sorts named = ap own (sym named) ∙ off
+off_url own mine s (Wipe url) a off sorts named = ap own (sym named) ∙ off
 off_url own mine s (Begin tab url made) a off sorts named = ap own (sym named) ∙ (sorts ∙ off)
 off_url own mine s (OpenTab tab url) a off sorts named = ap own (sym named) ∙ (sorts ∙ off)
 off_url own mine s _ a off sorts named = absurd named

@@ -3,23 +3,23 @@ use Rattle.std.proofs.Common.{◌≡◌, ◌∙◌, ℕ, ◌+◌, ◌<◌, ◌�
 use Rattle.script_text.specs.Requests.{offers_body}
 use Rattle.script_text.specs.declared.line.Line.{Line}
 use Rattle.script_text.specs.declared.request.Request.{Request}
-use Rattle.script_text.specs.declared.request.Request.TheVariants.{Put, Save, Get, Purge, Begin, Add, End, DropTab, OpenTab, More, CloseTab, Mark, Await}
+use Rattle.script_text.specs.declared.request.Request.TheVariants.{Put, Save, Get, Purge, Wipe, Begin, Add, End, DropTab, OpenTab, More, CloseTab, Mark, Await}
 use Rattle.plain_model.specs.declared.store.Setting.{Setting}
 use Rattle.plain_model.specs.declared.store.Tab.TheVariants.{Free}
 use Rattle.plain_model.specs.declared.store.Plain.{Plain}
 use Rattle.plain_model.specs.Store.{tab_at}
 use Rattle.plain_model.specs.Writing.{Step, add, end, give_up}
-use Rattle.plain_model.specs.Reading.{open_tab, more, close, purge}
+use Rattle.plain_model.specs.Reading.{open_tab, more, close, purge, wipe}
 use Rattle.plain_model.specs.Serving.{bytes_of, get, serve}
 use Rattle.plain_laws.specs.Fitting.{need_at}
 use Rattle.plain_laws.specs.Kept.{Keeps}
 use Rattle.plain_laws.specs.Private.{url_anchor, is_of}
 use Rattle.plain_laws.proofs.Keeping.{keeps_add, keeps_end, keeps_give_up}
-use Rattle.plain_laws.proofs.Looking.{keeps_open, keeps_more, keeps_close, keeps_purge, keeps_get}
+use Rattle.plain_laws.proofs.Looking.{keeps_open, keeps_more, keeps_close, keeps_purge, keeps_wipe, keeps_get}
 use Rattle.plain_laws.proofs.Roomed.{InRoom}
 use Rattle.plain_laws.proofs.Running.{need_here}
 use Rattle.plain_laws.proofs.Agreeing.{KeepsNone, Agree, Alike}
-use Rattle.plain_laws.proofs.ReadingAlike.{open_alike, more_alike, close_alike, purge_alike, get_alike}
+use Rattle.plain_laws.proofs.ReadingAlike.{open_alike, more_alike, close_alike, purge_alike, wipe_alike, get_alike}
 use Rattle.plain_laws.proofs.WritingAlike.{Drew, BothServed, add_alike, end_alike, give_up_alike, begin_alike, put_alike}
 
 -- a request opens a tab for an anchor of its own kind
@@ -54,6 +54,8 @@ serve_alike rename own mine s cap script w n (Get url) p q h lp lq le o sorts ne
     both_kept rename own mine p q (get s url p) (get s url q) (get_alike rename own mine s url p q h.none h.agree o h.last h.left_free h.right_free) (keeps_get s url p) (keeps_get s url q)
 serve_alike rename own mine s cap script w n (Purge url) p q h lp lq le o sorts next =
     both_kept rename own mine p q (purge s url p) (purge s url q) (purge_alike rename own mine s url p q h.none h.agree o) (keeps_purge s url p) (keeps_purge s url q)
+serve_alike rename own mine s cap script w n (Wipe url) p q h lp lq le o sorts next =
+    both_kept rename own mine p q (wipe s url p) (wipe s url q) (wipe_alike rename own mine s url p q h.none h.agree o) (keeps_wipe s url p) (keeps_wipe s url q)
 serve_alike rename own mine s cap script w n (Begin tab url made) p q h lp lq le o sorts next =
     begin_alike rename own mine s tab url (bytes_of made) (s.slots + n) p q h.none h.agree (sorts ∙ o) o (lp refl) (lq refl) next
 serve_alike rename own mine s cap script w n (Add tab count) p q h lp lq le o sorts next =

@@ -12,8 +12,7 @@ use Rattle.script_text.specs.declared.request.Request.TheVariants.{Begin, OpenTa
 use Rattle.plain_model.specs.declared.store.Setting.{Setting}
 use Rattle.plain_model.specs.declared.store.Plain.{Plain}
 use Rattle.plain_model.specs.Store.{place_at, tab_at}
-use Rattle.plain_model.specs.Serving.{answers, after, lines_for}
-use Rattle.plain_laws.specs.Begun.{begun}
+use Rattle.plain_model.specs.Serving.{answers_of, after, lines_for}
 use Rattle.plain_laws.specs.Fitting.{most_held, Fits, IsAtRest}
 use Rattle.plain_laws.specs.Renaming.{IsRenaming, CountsVersions}
 use Rattle.plain_laws.specs.Private.{names_only, takes, is_private_anchor, is_private_tab, is_private, private_lines, OpenOnly, TabsApart, AnswersAlone}
@@ -21,7 +20,7 @@ use Rattle.plain_laws.proofs.Course.{first, further}
 use Rattle.plain_laws.proofs.Running.{not_at, room_at_rest, all_needed}
 use Rattle.plain_laws.proofs.Agreeing.{Agree}
 use Rattle.plain_laws.proofs.OwnLines.{Sorts}
-use Rattle.plain_laws.proofs.InTurn.{begun_renamed}
+use Rattle.plain_laws.proofs.ServedAlone.{told_in_turn}
 use Rattle.plain_laws.proofs.Leaving.{tabs_left}
 use Rattle.plain_laws.proofs.Parted.{drawn, drawn_rise, AllSorted, Parts, parts}
 use Rattle.plain_laws.proofs.Standing.{standing, standing_is, standing_stands, none_kept}
@@ -105,10 +104,12 @@ pub answered_alone : (s : Setting) (script : List Line) (worker : ℕ) (p : Plai
     → Fits s (lines_for worker script) p → TabsApart s script worker → AnswersAlone s script worker p
 answered_alone s script worker p room some slots are rest counts fits apart =
     record {
-      rename = rename;
-      is = is;
-      answered = both.answered;
-      in_turn = ap (begun (private_lines s script worker)) both.answered ∙ begun_renamed rename (private_lines s script worker) (answers s script (private_lines s script worker) p);
+      served = record {
+        rename = rename;
+        is = is;
+        answered = both.answered;
+        in_turn = told_in_turn s script worker p (answers_of s script worker p) rename both.answered;
+      };
       places = both.agree.places;
       left = (tabs_left rename own mine s (most_held s lines p) (range_with_len 0 8) (after s script lines p) (after s script (private_lines s script worker) p) both.agree both.room).places;
     }

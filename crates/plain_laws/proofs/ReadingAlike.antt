@@ -23,12 +23,12 @@ use Rattle.plain_model.specs.declared.store.Plain.{Plain}
 use Rattle.plain_model.specs.Place.{doomed}
 use Rattle.plain_model.specs.Store.{place_at, entry_at, tab_at, with_tab, epoch_of, available}
 use Rattle.plain_model.specs.Writing.{Step, step, settle}
-use Rattle.plain_model.specs.Reading.{judge, has_url, open_at, open_tab, told, more, close, doom_at, purge_at, purge}
+use Rattle.plain_model.specs.Reading.{judge, has_url, open_at, open_tab, told, more, close, doom_at, purge_at, purge, goes_doomed, wiped_by, wipe}
 use Rattle.plain_model.specs.Serving.{hit_by, get}
 use Rattle.plain_laws.specs.Renaming.{renamed, renamed_epoch, renamed_cause}
 use Rattle.plain_laws.proofs.Roomed.{IsAt}
 use Rattle.plain_laws.proofs.ReadingRoomed.{more_is, close_is}
-use Rattle.plain_laws.proofs.Agreeing.{KeepsNone, Agree, Alike, epoch_alike, entry_alike, agree_tab, agree_free, agree_place, settle_agree, not_idle}
+use Rattle.plain_laws.proofs.Agreeing.{KeepsNone, Agree, Alike, epoch_alike, entry_alike, agree_tab, agree_free, agree_place, left_over_alike, settle_agree, not_idle}
 
 abbrev pub renamed_verdict : (ℕ → ℕ) → Option Cause → Option Cause
 renamed_verdict rename None = None
@@ -163,10 +163,13 @@ close_alike rename own mine tab p q h m (Reading a given other) t u =
     }))
 
 -- purging
+doom_agree : (rename : ℕ → ℕ) (own mine : ℕ → Bool) (a : ℕ) (p q : Plain) → Agree rename own mine p q → own a ≡ true → Agree rename own mine (doom_at a p) (doom_at a q)
+doom_agree rename own mine a p q h o = agree_place rename own mine a (doomed (place_at p a)) (doomed (place_at q a)) p q h (ap doomed (h.places a o))
+
 purge_at_alike : (rename : ℕ → ℕ) (own mine : ℕ → Bool) (s : Setting) (a : ℕ) (wanted : List ℕ) (p q : Plain) → KeepsNone rename → Agree rename own mine p q → own a ≡ true
     → (v : Option Cause) → judge s q a wanted ≡ v → judge s p a wanted ≡ renamed_verdict rename v → Alike rename own mine (purge_at s a wanted p) (purge_at s a wanted q)
 purge_at_alike rename own mine s a wanted p q k h o None j i =
-    let d : Agree rename own mine (doom_at a p) (doom_at a q) = agree_place rename own mine a (doomed (place_at p a)) (doomed (place_at q a)) p q h (ap doomed (h.places a o)) in
+    let d : Agree rename own mine (doom_at a p) (doom_at a q) = doom_agree rename own mine a p q h o in
     rw (j, i) (record {
       answer = ap answer.Purged (epoch_alike rename own mine s a (doom_at a p) (doom_at a q) k d o);
       agree = settle_agree rename own mine a (doom_at a p) (doom_at a q) d o;
@@ -177,6 +180,38 @@ pub purge_alike : (rename : ℕ → ℕ) (own mine : ℕ → Bool) (s : Setting)
     → Alike rename own mine (purge s url p) (purge s url q)
 purge_alike rename own mine s url p q k h o = purge_at_alike rename own mine s (anchor_of (key_of url) s.anchors) (key_of url) p q k h o (judge s q (anchor_of (key_of url) s.anchors) (key_of url)) refl
     (judge_alike rename own mine s (anchor_of (key_of url) s.anchors) (key_of url) p q k h o)
+
+-- wiping
+wiped_renamed : (rename : ℕ → ℕ) (goes : Bool) (epoch : Epoch) → wiped_by goes (answer.Purged (renamed_epoch rename epoch)) ≡ renamed rename (wiped_by goes (answer.Purged epoch))
+wiped_renamed rename true epoch = refl
+wiped_renamed rename false epoch = refl
+
+none_renamed : (rename : ℕ → ℕ) (left right : Bool) (cause : Cause) → wiped_by left (answer.NoEntry (renamed_cause rename cause)) ≡ renamed rename (wiped_by right (answer.NoEntry cause))
+none_renamed rename true true cause = refl
+none_renamed rename true false cause = refl
+none_renamed rename false true cause = refl
+none_renamed rename false false cause = refl
+
+wipe_at_alike : (rename : ℕ → ℕ) (own mine : ℕ → Bool) (s : Setting) (a : ℕ) (wanted : List ℕ) (left right : Bool) (p q : Plain) → KeepsNone rename → Agree rename own mine p q → own a ≡ true
+    → left ≡ right → (v : Option Cause) → judge s q a wanted ≡ v → judge s p a wanted ≡ renamed_verdict rename v
+    → Alike rename own mine (step (wiped_by left (purge_at s a wanted p).answer) (purge_at s a wanted p).after) (step (wiped_by right (purge_at s a wanted q).answer) (purge_at s a wanted q).after)
+wipe_at_alike rename own mine s a wanted left right p q k h o same None j i =
+    let d : Agree rename own mine (doom_at a p) (doom_at a q) = doom_agree rename own mine a p q h o in
+    rw (j, i) (record {
+      answer = ap (λ (e : Epoch). wiped_by left (answer.Purged e)) (epoch_alike rename own mine s a (doom_at a p) (doom_at a q) k d o)
+          ∙ ap (λ (b : Bool). wiped_by b (answer.Purged (renamed_epoch rename (epoch_of s.room (place_at (doom_at a q) a))))) same
+          ∙ wiped_renamed rename right (epoch_of s.room (place_at (doom_at a q) a));
+      agree = settle_agree rename own mine a (doom_at a p) (doom_at a q) d o;
+    })
+wipe_at_alike rename own mine s a wanted left right p q k h o same (Some cause) j i = rw (j, i) (record { answer = none_renamed rename left right cause; agree = h })
+
+pub wipe_alike : (rename : ℕ → ℕ) (own mine : ℕ → Bool) (s : Setting) (url : List ℕ) (p q : Plain) → KeepsNone rename → Agree rename own mine p q → own (anchor_of (key_of url) s.anchors) ≡ true
+    → Alike rename own mine (wipe s url p) (wipe s url q)
+wipe_alike rename own mine s url p q k h o = wipe_at_alike rename own mine s a (key_of url) (goes_doomed a p) (goes_doomed a q) p q k h o
+    (left_over_alike rename own mine a (doom_at a p) (doom_at a q) (doom_agree rename own mine a p q h o) o) (judge s q a (key_of url)) refl (judge_alike rename own mine s a (key_of url) p q k h o)
+  where
+    a : ℕ
+    a = anchor_of (key_of url) s.anchors
 
 -- reading at once
 abbrev got : Setting → ℕ → List ℕ → Plain → Step

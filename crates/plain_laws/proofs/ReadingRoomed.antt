@@ -20,7 +20,7 @@ use Rattle.script_text.specs.declared.answer.Answer.{Answer}
 use Rattle.script_text.specs.declared.answer.Answer.TheVariants as answer
 use Rattle.plain_model.specs.Store.{available, epoch_of, stage_of}
 use Rattle.plain_model.specs.Writing.{Step, step, settle}
-use Rattle.plain_model.specs.Reading.{judge, has_url, open_at, open_tab, told, more, close, doom_at, purge_at, purge}
+use Rattle.plain_model.specs.Reading.{judge, has_url, open_at, open_tab, told, more, close, doom_at, purge_at, purge, goes_doomed, wiped_by, wipe}
 use Rattle.plain_model.specs.Serving.{hit_by, get}
 use Rattle.plain_laws.specs.Fitting.{HadRoom}
 use Rattle.plain_laws.proofs.Staying.{IsOn, Stays, stays_refl, stays_trans, stays_set, stays_tab, stays_settle}
@@ -77,13 +77,35 @@ close_room s cap tab p h (Reading a g o) t = subst (λ (r : Step). Outcome s cap
     (Outcome.moved a refl (stays_trans tab a p (with_tab p tab Free) (settle a (with_tab p tab Free)) (stays_tab a tab Free p tt) (stays_settle tab a (with_tab p tab Free)))
     (fits_settled s (cap a) a (with_tab p tab Free) (h a)) tt)
 
+doom_room : (s : Setting) (cap : ℕ → ℕ) (a : ℕ) (p : Plain) (given : Answer) → AllFit s cap p → HadRoom given → Outcome s cap 7 p (λ b. a ≡ b) (step given (settle a (doom_at a p)))
+doom_room s cap a p given h fine = Outcome.moved a refl (stays_trans 7 a p (doom_at a p) (settle a (doom_at a p)) (stays_set doomed 7 a p) (stays_settle 7 a (doom_at a p)))
+    (fits_settled s (cap a) a (doom_at a p) (fits_changed s (cap a) p.places a (doomed (place_at p a)) (fits_doomed s (cap a) (place_at p a) (h a)))) fine
+
 purge_at_room : (s : Setting) (cap : ℕ → ℕ) (a : ℕ) (wanted : List ℕ) (p : Plain) → AllFit s cap p → (o : Option Cause) → judge s p a wanted ≡ o → Outcome s cap 7 p (λ b. a ≡ b) (purge_at s a wanted p)
-purge_at_room s cap a wanted p h None e = rw e (Outcome.moved a refl (stays_trans 7 a p (doom_at a p) (settle a (doom_at a p)) (stays_set doomed 7 a p) (stays_settle 7 a (doom_at a p)))
-    (fits_settled s (cap a) a (doom_at a p) (fits_changed s (cap a) p.places a (doomed (place_at p a)) (fits_doomed s (cap a) (place_at p a) (h a)))) tt)
+purge_at_room s cap a wanted p h None e = rw e (doom_room s cap a p (answer.Purged (epoch_of s.room (place_at (doom_at a p) a))) h tt)
 purge_at_room s cap a wanted p h (Some cause) e = rw e (Outcome.still refl tt)
 
 pub purge_room : (s : Setting) (cap : ℕ → ℕ) (url : List ℕ) (p : Plain) → AllFit s cap p → Outcome s cap 7 p (IsUrlAt s url) (purge s url p)
 purge_room s cap url p h = purge_at_room s cap (anchor_of (key_of url) s.anchors) (key_of url) p h (judge s p (anchor_of (key_of url) s.anchors) (key_of url)) refl
+
+-- wiping
+wiped_fine : (goes : Bool) (epoch : Epoch) → HadRoom (wiped_by goes (answer.Purged epoch))
+wiped_fine true epoch = tt
+wiped_fine false epoch = tt
+
+none_fine : (goes : Bool) (cause : Cause) → HadRoom (wiped_by goes (answer.NoEntry cause))
+none_fine true cause = tt
+none_fine false cause = tt
+
+wipe_at_room : (s : Setting) (cap : ℕ → ℕ) (a : ℕ) (wanted : List ℕ) (goes : Bool) (p : Plain) → AllFit s cap p → (o : Option Cause) → judge s p a wanted ≡ o
+    → Outcome s cap 7 p (λ b. a ≡ b) (step (wiped_by goes (purge_at s a wanted p).answer) (purge_at s a wanted p).after)
+wipe_at_room s cap a wanted goes p h None e =
+    rw e (doom_room s cap a p (wiped_by goes (answer.Purged (epoch_of s.room (place_at (doom_at a p) a)))) h (wiped_fine goes (epoch_of s.room (place_at (doom_at a p) a))))
+wipe_at_room s cap a wanted goes p h (Some cause) e = rw e (Outcome.still refl (none_fine goes cause))
+
+pub wipe_room : (s : Setting) (cap : ℕ → ℕ) (url : List ℕ) (p : Plain) → AllFit s cap p → Outcome s cap 7 p (IsUrlAt s url) (wipe s url p)
+wipe_room s cap url p h =
+    wipe_at_room s cap (anchor_of (key_of url) s.anchors) (key_of url) (goes_doomed (anchor_of (key_of url) s.anchors) p) p h (judge s p (anchor_of (key_of url) s.anchors) (key_of url)) refl
 
 -- all still fit behind a request
 other_anchor : (a b : ℕ) → (b ≡ a) ⊎ (b ≡ a → ⊥)

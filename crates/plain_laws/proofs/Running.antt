@@ -23,10 +23,10 @@ use Rattle.script_text.specs.Requests.{offers_body, OffersBody}
 use Rattle.script_text.specs.declared.answer.Answer.TheVariants as answer
 use Rattle.script_text.specs.declared.line.Line.{Line}
 use Rattle.script_text.specs.declared.request.Request.{Request}
-use Rattle.script_text.specs.declared.request.Request.TheVariants.{Put, Save, Get, Purge, Begin, Add, End, DropTab, OpenTab, More, CloseTab, Mark, Await}
+use Rattle.script_text.specs.declared.request.Request.TheVariants.{Put, Save, Get, Purge, Wipe, Begin, Add, End, DropTab, OpenTab, More, CloseTab, Mark, Await}
 use Rattle.plain_model.specs.Store.{meta_size, is_vacant_at, is_idle_at}
 use Rattle.plain_model.specs.Writing.{Step, step, taken_by, entry_of, begin, add, end, give_up}
-use Rattle.plain_model.specs.Reading.{open_tab, told, more, close, purge}
+use Rattle.plain_model.specs.Reading.{open_tab, told, more, close, purge, wipe}
 use Rattle.plain_model.specs.Serving.{bytes_of, put, get, serve, answers, after, is_set_before}
 use Rattle.plain_laws.specs.Fitting.{need, need_if_at, need_at, most_needed, most_held, Fits, IsAtRest, Names, NamesNone, HadRoom, RunsInRoom}
 use Rattle.plain_laws.specs.Holding.{HoldsItsSlots}
@@ -39,7 +39,7 @@ use Rattle.script_text.specs.declared.body.Body.{Body}
 use Rattle.plain_laws.proofs.Alone.{all_caps}
 use Rattle.plain_laws.proofs.Held.{new_holds_none, taken_holds, able_not, serve_holds, anchor_inside}
 use Rattle.plain_laws.proofs.Serving.{Effect, effect, anchors_stay}
-use Rattle.plain_laws.proofs.ReadingRoomed.{IsUrlAt, open_room, more_room, close_room, purge_room, get_room, fit_after, Follows, follow, on_at}
+use Rattle.plain_laws.proofs.ReadingRoomed.{IsUrlAt, open_room, more_room, close_room, purge_room, wipe_room, get_room, fit_after, Follows, follow, on_at}
 
 pub holds_of : (s : Setting) (cap : ℕ → ℕ) (p : Plain) → InRoom s cap p → HoldsItsSlots s p
 holds_of s cap p h = record {
@@ -174,6 +174,7 @@ serve_room s cap script w n (Begin tab url made) p h below le = named s cap p (B
     (begin_room s cap tab url (bytes_of made) (s.slots + n) p h (below refl) (need_here s cap url (bytes_of made) le) (begins s tab url (bytes_of made) (s.slots + n) p (tab_at p tab) refl))
 serve_room s cap script w n (Get url) p h below le = named s cap p (Get url) (IsUrlAt s url) (get s url p) (λ a k. inl k) (get_room s cap url p h.fits (opens s url p (tab_at p 7) refl))
 serve_room s cap script w n (Purge url) p h below le = named s cap p (Purge url) (IsUrlAt s url) (purge s url p) (λ a k. inl k) (purge_room s cap url p h.fits)
+serve_room s cap script w n (Wipe url) p h below le = named s cap p (Wipe url) (IsUrlAt s url) (wipe s url p) (λ a k. inl k) (wipe_room s cap url p h.fits)
 serve_room s cap script w n (OpenTab tab url) p h below le = named s cap p (OpenTab tab url) (IsUrlAt s url) (open_tab s tab url p) (λ a k. inl k) (open_room s cap tab url p h.fits (tab_at p tab) refl)
 serve_room s cap script w n (Add tab count) p h below le = named s cap p (Add tab count) (λ b. IsAt b (tab_at p tab)) (add s tab count p) (λ a k. inr k) (add_room s cap tab count p h (tab_at p tab) refl)
 serve_room s cap script w n (End tab) p h below le = named s cap p (End tab) (λ b. IsAt b (tab_at p tab)) (end s tab p) (λ a k. inr k) (end_room s cap tab p h (tab_at p tab) refl)

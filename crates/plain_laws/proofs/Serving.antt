@@ -7,7 +7,7 @@ use Rattle.script_text.specs.Requests.{OffersBody}
 use Rattle.script_text.specs.declared.body.Body.{Body}
 use Rattle.script_text.specs.declared.line.Line.{Line}
 use Rattle.script_text.specs.declared.request.Request.{Request}
-use Rattle.script_text.specs.declared.request.Request.TheVariants.{Put, Save, Get, Purge, Begin, Add, End, DropTab, OpenTab, More, CloseTab, Mark, Await}
+use Rattle.script_text.specs.declared.request.Request.TheVariants.{Put, Save, Get, Purge, Wipe, Begin, Add, End, DropTab, OpenTab, More, CloseTab, Mark, Await}
 use Rattle.plain_model.specs.declared.entry.Entry.{Entry}
 use Rattle.plain_model.specs.declared.entry.Place.{Place}
 use Rattle.plain_model.specs.declared.store.Setting.{Setting}
@@ -21,7 +21,7 @@ use Rattle.plain_model.specs.Serving.{bytes_of, put, serve}
 use Rattle.plain_laws.specs.Kept.{Keeps, Begins}
 use Rattle.plain_laws.specs.Begun.{told_begun, told_stored, begun_by}
 use Rattle.plain_laws.proofs.Keeping.{keeps_refl, keeps_add, keeps_end, keeps_give_up}
-use Rattle.plain_laws.proofs.Looking.{keeps_open, keeps_more, keeps_close, keeps_purge, keeps_get}
+use Rattle.plain_laws.proofs.Looking.{keeps_close, keeps_get, keeps_more, keeps_open, keeps_purge, keeps_wipe}
 use Rattle.plain_laws.proofs.Beginning.{BeginsAs, begins, set_here}
 use Rattle.plain_laws.proofs.Ending.{TellsAtMost, end_tells}
 
@@ -86,6 +86,7 @@ effect_of s script w n (Save url made) p =
     ]
 effect_of s script w n (Get url) p = Effect.kept (keeps_get s url p) refl
 effect_of s script w n (Purge url) p = Effect.kept (keeps_purge s url p) refl
+effect_of s script w n (Wipe url) p = Effect.kept (keeps_wipe s url p) refl
 effect_of s script w n (Begin tab url made) p =
     elim (begin_effect s tab url (bytes_of made) (s.slots + n) p (begins s tab url (bytes_of made) (s.slots + n) p (tab_at p tab) refl)) [
       | inl h ↦ Effect.kept h.0 h.1

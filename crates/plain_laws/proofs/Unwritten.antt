@@ -35,7 +35,7 @@ module _ (slot : ℕ) (images : List (List ℕ)) (zeros : All AreZeros images) w
   none_sane : (s : ℕ) → IsSaneAt slot images s → ⊥
   none_sane s h = let some = h.sane.version_from in let none = no_version (image_at images s) (zeros_at images zeros s) in omega (arith, some, none)
 
-  none_complete : (e : Entry) → IsComplete slot images e → ⊥
+  pub none_complete : (e : Entry) → IsComplete slot images e → ⊥
   none_complete e h = let belong : All (BelongsTo slot images e.first) (e.first ∷ h.chain.behind) = subst (All (BelongsTo slot images e.first)) h.chain.begins h.chain.belong in
       none_sane e.first (All-head (BelongsTo slot images e.first) e.first h.chain.behind belong).sane
 

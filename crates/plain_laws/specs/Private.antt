@@ -1,5 +1,5 @@
 -- Anchors, tabs and lines that are one worker's own.
-use Rattle.std.specs.Prelude.{◌≡◌, ◌⊎◌, ℕ, ◌≤◌, ◌==◌, ◌||◌, List, [], ◌∷◌, map, filter, Contains, if◌then◌else◌, Bool, true, false, not, Option, Some, None}
+use Rattle.std.specs.Prelude.{◌≡◌, ◌⊎◌, ℕ, ◌==◌, ◌||◌, List, [], ◌∷◌, map, filter, Contains, if◌then◌else◌, Bool, true, false, not, Option, Some, None}
 use Rattle.std.specs.List.{range_with_len, list_all}
 use Rattle.store_key.specs.Key.{key_of}
 use Rattle.store_key.specs.Anchor.{anchor_of}
@@ -86,17 +86,25 @@ pub record TabsApart (s : Setting) (script : List Line) (worker : ℕ) : Type 0 
   pub apart : (tab : ℕ) → OpenOnly s (is_private_anchor s script worker) tab (lines_for worker script)
       ⊎ OpenOnly s (λ anchor. not (is_private_anchor s script worker anchor)) tab (lines_for worker script)
 
--- The private lines of the worker are answered as they are by themselves, and leave the same at private anchors, before and
--- after all tabs are left, but for versions: later ones stand for later ones, and those that were given out before for
--- themselves. The versions that the lines begin stand for one another in turn.
-pub record AnswersAlone (s : Setting) (script : List Line) (worker : ℕ) (p : Plain) : Type 0 where
+-- What the worker was given as answers to its private lines is what the plain store p answers to these lines by themselves, but for versions:
+-- later ones stand for later ones, and those that were given out before for themselves. The versions that the lines begin stand for one
+-- another in turn.
+pub record IsServedAlone (s : Setting) (script : List Line) (worker : ℕ) (p : Plain) (given : List Answer) : Type 0 where
+  -- which version of the answers stands for a version of the plain store
   pub rename : ℕ → ℕ
   pub is : IsRenaming p.counter rename
-  pub answered : answers_to (is_private s script worker) (lines_for worker script) (answers_of s script worker p)
+  -- of all answers that the worker was given, those to its private lines
+  pub answered : answers_to (is_private s script worker) (lines_for worker script) given
       ≡ map (renamed rename) (answers s script (private_lines s script worker) p)
-  pub in_turn : begun (private_lines s script worker) (answers_to (is_private s script worker) (lines_for worker script) (answers_of s script worker p))
+  pub in_turn : begun (private_lines s script worker) (answers_to (is_private s script worker) (lines_for worker script) given)
       ≡ map rename (begun (private_lines s script worker) (answers s script (private_lines s script worker) p))
+
+-- The private lines of the worker are answered as they are by themselves, and leave the same at private anchors, before and
+-- after all tabs are left, but for versions.
+pub record AnswersAlone (s : Setting) (script : List Line) (worker : ℕ) (p : Plain) : Type 0 where
+  -- of what all its lines are answered by the plain store
+  pub served : IsServedAlone s script worker p (answers_of s script worker p)
   pub places : (anchor : ℕ) → is_private_anchor s script worker anchor ≡ true
-      → place_at (after s script (lines_for worker script) p) anchor ≡ renamed_place rename (place_at (after s script (private_lines s script worker) p) anchor)
+      → place_at (after s script (lines_for worker script) p) anchor ≡ renamed_place served.rename (place_at (after s script (private_lines s script worker) p) anchor)
   pub left : (anchor : ℕ) → is_private_anchor s script worker anchor ≡ true
-      → place_at (left_by s script worker p) anchor ≡ renamed_place rename (place_at (leave_all (range_with_len 0 8) (after s script (private_lines s script worker) p)) anchor)
+      → place_at (left_by s script worker p) anchor ≡ renamed_place served.rename (place_at (leave_all (range_with_len 0 8) (after s script (private_lines s script worker) p)) anchor)

@@ -7,9 +7,11 @@ ghost use Rattle.script_text.specs.declared.answer.Answer.{Answer};
 ghost use Rattle.plain_model.specs.declared.entry.Entry.{Entry};
 ghost use Rattle.plain_model.specs.declared.store.Setting.{Setting};
 ghost use Rattle.plain_model.specs.declared.store.Plain.{Plain};
-ghost use Rattle.plain_model.specs.Store.{entry_at};
+ghost use Rattle.plain_model.specs.Slots.{held};
+ghost use Rattle.plain_model.specs.Store.{entry_at, place_at};
 ghost use Rattle.plain_model.specs.Serving.{answers, after, lines_for, left_by, get, fresh};
 ghost use Rattle.slot_cell.specs.declared.header.TheConstants.{HEADER_SIZE};
+ghost use Rattle.rebuild_model.specs.Entry.{Entry as FileEntry, IsComplete};
 ghost use Rattle.rebuild_model.specs.Rebuilt.{IsRebuilt};
 ghost use Rattle.rebuild_model.specs.declared.rebuilt.Rebuilt.{Rebuilt};
 ghost use Rattle.plain_model.specs.Opening.{kept_of, opened, IsOpened};
@@ -19,9 +21,9 @@ ghost use Rattle.plain_laws.specs.Begun.{begun, RiseAbove};
 ghost use Rattle.plain_laws.specs.Hit.{IsHit};
 ghost use Rattle.plain_laws.specs.Holding.{HoldsItsSlots, slots_held};
 ghost use Rattle.plain_laws.specs.Fitting.{Fits, IsAtRest, RunsInRoom};
-ghost use Rattle.plain_laws.specs.Renaming.{CountsVersions};
-ghost use Rattle.plain_laws.specs.Private.{TabsApart, AnswersAlone};
-ghost use Rattle.plain_laws.specs.Opened.{FitsFile};
+ghost use Rattle.plain_laws.specs.Renaming.{CountsVersions, IsRenaming, renamed};
+ghost use Rattle.plain_laws.specs.Private.{TabsApart, AnswersAlone, IsServedAlone, answers_to, is_private, private_lines};
+ghost use Rattle.plain_laws.specs.Opened.{FitsFile, HoldsOfFile};
 
 /// A version is begun by one line: those that lines begin rise, and are above all that were given out
 /// before. And no version stands at an anchor that was not given out, if none did before, nor once a
@@ -80,6 +82,18 @@ pub fn private_lines_are_answered_alone()
         → (worker : ℕ) (line : Line) → Contains (lines_for worker script) line → IsOnTab line.request }
 {}
 
+/// A worker is served alone where the answers that it was given to its private lines are the plain store's to
+/// these lines by themselves, but for versions: that the versions which they begin stand for one another in turn
+/// follows (`told`). The versions that a worker's private lines begin then rise, and are above all that were given
+/// out before (`rise`).
+pub fn workers_are_served_alone()
+    ensures told { (s : Setting) (script : List Line) (worker : ℕ) (p : Plain) (given : List Answer) (rename : ℕ → ℕ) → IsRenaming p.counter rename
+        → answers_to (is_private s script worker) (lines_for worker script) given ≡ map (renamed rename) (answers s script (private_lines s script worker) p)
+        → IsServedAlone s script worker p given }
+    ensures rise { (s : Setting) (script : List Line) (worker : ℕ) (p : Plain) (given : List Answer) → IsServedAlone s script worker p given
+        → RiseAbove p.counter (begun (private_lines s script worker) (answers_to (is_private s script worker) (lines_for worker script) given)) }
+{}
+
 /// A store that was never written, and one that is opened on entries of a file, are at rest and have a
 /// place for each anchor. One that is opened on a file holds no more slots than the file has, and no version
 /// stands in it that was not given out: what a rebuild keeps of a file fits it. So does each list of entries
@@ -99,8 +113,21 @@ pub fn stores_begin_at_rest()
         → IsAtRest p × HoldsItsSlots s p × (length p.places ≡ s.anchors) × CountsVersions p }
 {}
 
+/// An anchor of a store that is opened on a file holds no more slots than the entry of the file has that a rebuild keeps there, and none
+/// where it keeps nothing.
+pub fn anchors_hold_slots_of_the_file()
+    ensures { (room : ℕ) (images : List (List ℕ)) (anchors anchor : ℕ) (p : Plain) → IsOpened (room + HEADER_SIZE) images anchors p
+        → (held room (place_at p anchor) ≡ 0) ⊎ HoldsOfFile (room + HEADER_SIZE) images anchors anchor room p }
+{}
+
 /// A store that is opened on slots of zeros is one that was never written.
 pub fn unwritten_slots_open_fresh_stores()
     ensures { (slot : ℕ) (images : List (List ℕ)) (anchors : ℕ) (p : Plain)
         → All (λ image. All (λ b. b ≡ 0) image) images → IsOpened slot images anchors p → p ≡ fresh anchors }
+{}
+
+/// Slots whose bytes are all 0 have no complete entry.
+pub fn unwritten_slots_have_no_entry()
+    ensures { (slot : ℕ) (images : List (List ℕ)) (e : FileEntry) → All (λ image. All (λ b. b ≡ 0) image) images
+        → IsComplete slot images e → ⊥ }
 {}

@@ -5,7 +5,8 @@
 mod laws;
 
 pub use laws::{
-    entries_are_of_lines, fitting_scripts_have_room, held_slots_are_there, hits_are_whole,
-    private_lines_are_answered_alone, stores_begin_at_rest, unwritten_slots_open_fresh_stores,
-    versions_are_begun_once,
+    anchors_hold_slots_of_the_file, entries_are_of_lines, fitting_scripts_have_room,
+    held_slots_are_there, hits_are_whole, private_lines_are_answered_alone, stores_begin_at_rest,
+    unwritten_slots_have_no_entry, unwritten_slots_open_fresh_stores, versions_are_begun_once,
+    workers_are_served_alone,
 };

@@ -1,5 +1,5 @@
 -- The store as it is opened on a file.
-use Rattle.std.specs.Prelude.{◌≡◌, ℕ, ◌==◌, List, length, map, find, replicate, Option, Some, None, true, false}
+use Rattle.std.specs.Prelude.{◌≡◌, ℕ, ◌==◌, List, length, map, find, replicate, Option, Some, None, false}
 use Rattle.std.specs.List.{range_with_len}
 use Rattle.store_key.specs.Anchor.{anchor_of}
 use Rattle.rebuild_model.specs.Entry.{content_of, Entry as FileEntry}

@@ -1,5 +1,5 @@
 -- Reading and purging an entry.
-use Rattle.std.specs.Prelude.{ℕ, List, length, drop, slice_set, if◌then◌else◌, Bool, true, false, Option, Some, None, not}
+use Rattle.std.specs.Prelude.{ℕ, List, length, drop, slice_set, Bool, true, false, Option, Some, None, not}
 use Rattle.std.specs.Str.{bytes_eq}
 use Rattle.script_text.specs.declared.answer.Answer.{Answer}
 use Rattle.script_text.specs.declared.answer.Answer.TheVariants as answer
@@ -17,7 +17,7 @@ use Rattle.plain_model.specs.declared.store.Tab.{Tab}
 use Rattle.plain_model.specs.declared.store.Tab.TheVariants.{Free, Writing, Reading}
 use Rattle.plain_model.specs.declared.store.Plain.{Plain}
 use Rattle.plain_model.specs.Place.{doomed}
-use Rattle.plain_model.specs.Store.{place_at, entry_at, tab_at, with_tab, epoch_of, available}
+use Rattle.plain_model.specs.Store.{place_at, entry_at, tab_at, with_tab, epoch_of, is_left_over_at, available}
 use Rattle.plain_model.specs.Writing.{Step, step, settle}
 
 -- why the entry at an anchor is none to read for this key; None is a hit
@@ -86,3 +86,17 @@ purge_at s anchor wanted p = on (judge s p anchor wanted)
 
 abbrev pub purge : Setting → List ℕ → Plain → Step
 purge s url p = purge_at s (anchor_of (key_of url) s.anchors) (key_of url) p
+
+-- what a wipe is answered where a purge is answered this: an entry that goes as soon as it is doomed is erased on the disk
+abbrev pub wiped_by : (goes : Bool) → Answer → Answer
+wiped_by true (answer.Purged epoch) = answer.Wiped epoch
+wiped_by false (answer.Purged epoch) = answer.Later epoch
+wiped_by goes other = other
+
+-- the entry at an anchor goes as soon as it is doomed
+abbrev pub goes_doomed : ℕ → Plain → Bool
+goes_doomed anchor p = is_left_over_at (doom_at anchor p) anchor
+
+-- a wipe leaves what a purge leaves
+abbrev pub wipe : Setting → List ℕ → Plain → Step
+wipe s url p = step (wiped_by (goes_doomed (anchor_of (key_of url) s.anchors) p) (purge s url p).answer) (purge s url p).after

@@ -1,11 +1,11 @@
 -- What lines and scripts are answered.
-use Rattle.std.specs.Prelude.{ℕ, ◌+◌, ◌%◌, ◌==◌, ◌&&◌, List, [], ◌∷◌, map, filter, replicate, nat_lt, if◌then◌else◌, Bool, true, false, Option, Some, None}
+use Rattle.std.specs.Prelude.{ℕ, ◌+◌, ◌%◌, ◌==◌, ◌&&◌, List, [], ◌∷◌, map, filter, replicate, nat_lt, if◌then◌else◌, Bool, true, false}
 use Rattle.std.specs.List.{range_with_len, list_any}
 use Rattle.script_text.specs.declared.body.Body.{Body}
 use Rattle.script_text.specs.declared.body.Body.TheVariants.{Text, Made}
 use Rattle.script_text.specs.declared.line.Line.{Line}
 use Rattle.script_text.specs.declared.request.Request.{Request}
-use Rattle.script_text.specs.declared.request.Request.TheVariants.{Put, Save, Get, Purge, Begin, Add, End, DropTab, OpenTab, More, CloseTab, Mark, Await}
+use Rattle.script_text.specs.declared.request.Request.TheVariants.{Put, Save, Get, Purge, Wipe, Begin, Add, End, DropTab, OpenTab, More, CloseTab, Mark, Await}
 use Rattle.script_text.specs.declared.answer.Answer.{Answer}
 use Rattle.script_text.specs.declared.answer.Answer.TheVariants as answer
 use Rattle.plain_model.specs.declared.store.Setting.{Setting}
@@ -15,7 +15,7 @@ use Rattle.plain_model.specs.declared.store.Plain.{Plain}
 use Rattle.plain_model.specs.Place.{nothing}
 use Rattle.plain_model.specs.Store.{tab_at}
 use Rattle.plain_model.specs.Writing.{Step, step, begin, add, end, give_up}
-use Rattle.plain_model.specs.Reading.{open_tab, more, close, purge}
+use Rattle.plain_model.specs.Reading.{open_tab, more, close, purge, wipe}
 
 -- a store that was never written
 abbrev pub fresh : ℕ → Plain
@@ -76,6 +76,7 @@ serve s script line p = on line.request
     on (Save url body) = put s url (bytes_of body) offer p
     on (Get url) = get s url p
     on (Purge url) = purge s url p
+    on (Wipe url) = wipe s url p
     on (Begin tab url body) = begin s tab url (bytes_of body) offer p
     on (Add tab count) = add s tab count p
     on (End tab) = end s tab p

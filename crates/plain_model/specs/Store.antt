@@ -1,5 +1,5 @@
 -- What can be read off a store.
-use Rattle.std.specs.Prelude.{ℕ, ◌+◌, ◌-◌, ◌*◌, ◌/◌, ◌==◌, ◌&&◌, ◌||◌, List, length, take, drop, slice_index_or, slice_set, count_by, if◌then◌else◌, Bool, true, false, Option, Some, None, not, is_none}
+use Rattle.std.specs.Prelude.{ℕ, ◌+◌, ◌-◌, ◌*◌, ◌/◌, ◌==◌, ◌&&◌, ◌||◌, List, length, take, slice_index_or, slice_set, count_by, if◌then◌else◌, Bool, true, false, Option, Some, None, not, is_none}
 use Rattle.lock_word.specs.declared.stage.Stage.{Stage}
 use Rattle.lock_word.specs.declared.stage.Stage.TheVariants as stage
 use Rattle.lock_word.specs.declared.epoch.Epoch.{Epoch}

@@ -1,5 +1,5 @@
 -- Writing an entry: begin, append, finish, give up.
-use Rattle.std.specs.Prelude.{ℕ, ◌+◌, ◌-◌, ◌==◌, ◌||◌, List, length, min, nat_lt, nat_le, slice_set, if◌then◌else◌, Bool, true, false, Option, Some, None, not}
+use Rattle.std.specs.Prelude.{ℕ, ◌+◌, ◌-◌, ◌==◌, ◌||◌, List, length, min, nat_lt, nat_le, slice_set, if◌then◌else◌, false, Option, Some, None, not}
 use Rattle.script_text.specs.declared.answer.Answer.{Answer}
 use Rattle.script_text.specs.declared.answer.Answer.TheVariants as answer
 use Rattle.store_key.specs.Key.{key_of}
@@ -14,7 +14,7 @@ use Rattle.plain_model.specs.declared.store.Plain.{Plain}
 use Rattle.plain_model.specs.declared.store.Refusal.{Refusal}
 use Rattle.plain_model.specs.declared.store.Refusal.TheVariants.{Full, Large}
 use Rattle.plain_model.specs.Place.{vacated, ended}
-use Rattle.plain_model.specs.Store.{place_at, entry_at, tab_at, with_tab, meta_size, published, word_at, is_vacant_at, is_idle_at, is_left_over_at}
+use Rattle.plain_model.specs.Store.{place_at, entry_at, tab_at, meta_size, published, word_at, is_vacant_at, is_idle_at, is_left_over_at}
 use Rattle.plain_model.specs.Slots.{Claimed, claim, Grown, grow}
 
 -- what a request is answered, and what it leaves

@@ -1,5 +1,5 @@
 -- Bytes that a call adds to the entry that a tab writes, in the store and in the plain store.
-use Rattle.std.proofs.Common.{Bool, List, None, Some, [], ap, arith, cond, inl, inr, length, ne_eqb, refl, subst, sym, ◌*◌, ◌+◌, ◌-◌, ◌<◌, ◌∙◌, ◌≡◌, ◌≢◌, ◌≤◌, ◌⊎◌, ◌∷◌, ℕ}
+use Rattle.std.proofs.Common.{Bool, List, None, Some, [], ap, arith, cond, inl, inr, length, ne_eqb, refl, subst, sym, ◌*◌, ◌+◌, ◌-◌, ◌<◌, ◌∙◌, ◌≡◌, ◌≢◌, ◌≤◌, ◌⊎◌, ◌∷◌, ℕ, true}
 use Rattle.std.specs.Prelude.{◌==◌}
 use Rattle.lock_word.specs.declared.stage.Stage.{Stage}
 use Rattle.lock_word.specs.declared.stage.Stage.TheVariants as stage
@@ -34,15 +34,15 @@ use Rattle.store_rule.specs.Ground.{Ground, Offers}
 use Rattle.store_rule.specs.Passes.{basis, view}
 use Rattle.store_rule.proofs.Passing.{pass_of}
 use Rattle.store_serve.specs.Adding.{Call, Took, taken_on}
-use Rattle.plain_runs.specs.Words.{HasChain, HasNames, IsLone, IsOfOffer, Knows, ShowsAt, ShowsEntry, no_guests, setting_of}
+use Rattle.plain_runs.specs.Words.{HasChain, HasNames, IsOfOffer, KnowsLot, Lot, ShowsAt, ShowsEntry, no_guests, setting_of}
 use Rattle.plain_runs.proofs.Flushing.{HasFlushed, entry_shown, flushed_right, knows_grown, resized_at, resized_offer, staged, word_staged}
-use Rattle.plain_runs.proofs.Freeing.{KnowsBut, knows_but}
+use Rattle.plain_runs.proofs.Freeing.{KnowsLotBut, knows_but}
 use Rattle.plain_runs.proofs.Growth.{append_behind, append_here, append_on, published_is}
-use Rattle.plain_runs.proofs.OwnAnchors.{owns_lone}
+use Rattle.plain_runs.proofs.OwnAnchors.{OwnsLot, lot_stays}
 use Rattle.plain_runs.proofs.Published.{anchor_there, chain_of_tab}
-use Rattle.plain_runs.proofs.Reserving.{IsReadied, quiet_on}
+use Rattle.plain_runs.proofs.Reserving.{IsReadied, supply_on, supply_resized}
 
-module _ {C O : Type 0} (tells : Bool) (state : C → CellState) (offers : O → Offers) (st : Store C O) (lone : IsLone (basis tells state offers st)) (rename : ℕ → ℕ) (t : ℕ) where
+module _ {C O : Type 0} (tells : Bool) (state : C → CellState) (offers : O → Offers) (st : Store C O) (lot : Lot) (rename : ℕ → ℕ) (t : ℕ) where
   abbrev g : Ground (List ℕ)
   g = basis tells state offers st
 
@@ -74,10 +74,10 @@ module _ {C O : Type 0} (tells : Bool) (state : C → CellState) (offers : O →
 
   -- what is known of the anchor, with another size of the entry
   module _ (q : Pass C) (p : Plain) (e : Writing_) (w : WritesAs tells state offers st q t e) (x : Entry) (there : entry_at p e.anchor ≡ Some x) (grows : x.life ≡ Growing) where
-    pub regrown : (c : ℕ) (k : Stage) → size_of g e ≡ c → KnowsBut g rename (view q) p no_guests e.anchor → has g (view q) (Anchor e.anchor) ≡ staged rename p e.anchor k → stage_of_entry room Growing c ≡ k
-        → HasNames g (view q) e.anchor x → IsOfOffer g e.anchor (record x { content = c }) → 0 < (place_at p e.anchor).version → Knows g rename (view q) (resize e.anchor c p) no_guests
-    regrown c k size but word is names offer drawn = knows_grown g rename (view q) p e.anchor c x k but there grows word is names
-        (chain_of_tab g (view q) t (writer_as g e w.published w.end (slots_of_link w.end)) (record x { content = c }) (owns_lone g lone (view q).pass e.anchor) w.rests.own.stands (pass_of q) w.rests.below w.rests.is refl many ends) offer drawn
+    pub regrown : (c : ℕ) (k : Stage) → size_of g e ≡ c → OwnsLot g lot (view q).pass → lot.anchors e.anchor ≡ true → KnowsLotBut g rename lot (view q) p no_guests e.anchor → has g (view q) (Anchor e.anchor) ≡ staged rename p e.anchor k → stage_of_entry room Growing c ≡ k
+        → HasNames g (view q) e.anchor x → IsOfOffer g e.anchor (record x { content = c }) → 0 < (place_at p e.anchor).version → KnowsLot g rename lot (view q) (resize e.anchor c p) no_guests
+    regrown c k size owns ours but word is names offer drawn = knows_grown g rename (view q) p e.anchor c x k but there grows word is names
+        (chain_of_tab g (view q) t (writer_as g e w.published w.end (slots_of_link w.end)) (record x { content = c }) (owns e.anchor (writer_there q e w) ours) w.rests.own.stands (pass_of q) w.rests.below w.rests.is refl many ends) offer drawn
       where
         many : length w.published ≡ Rattle.plain_runs.specs.Words.slots_published room x.life c
         many = sym (level_is q e w) ∙ (ap (published room) size ∙ ap (λ (l : Life). Rattle.plain_runs.specs.Words.slots_published room l c) (sym grows))
@@ -85,12 +85,12 @@ module _ {C O : Type 0} (tells : Bool) (state : C → CellState) (offers : O →
         ends : Rattle.plain_runs.specs.Words.EndsSo x.life w.end
         ends = subst (λ (l : Life). Rattle.plain_runs.specs.Words.EndsSo l w.end) (sym grows) (open_end w.published w.end w.rests.goes_on)
 
-  module _ (pass : Pass C) (p : Plain) (e : Writing_) (x : Entry) (ready : IsReadied g lone rename t (view pass) p pass.hand) (h : Grows pass p e x) where
+  module _ (pass : Pass C) (p : Plain) (e : Writing_) (x : Entry) (ready : IsReadied g lot rename t e.anchor (view pass) p pass.hand) (ours : lot.anchors e.anchor ≡ true) (h : Grows pass p e x) where
     lt : e.anchor < g.setting.anchors
     lt = writer_there pass e h.writes
 
     shown_at : ShowsAt g rename (view pass) p 0 e.anchor
-    shown_at = ready.knows.each e.anchor lt refl
+    shown_at = ready.knows.each e.anchor lt ours
 
     shown : ShowsEntry g (view pass) e.anchor (place_at p e.anchor).version x
     shown = entry_shown g rename (view pass) p e.anchor shown_at x h.there
@@ -120,13 +120,13 @@ module _ {C O : Type 0} (tells : Bool) (state : C → CellState) (offers : O →
   pub record HasAppended (pass q : Pass C) (p : Plain) (e : Writing_) (x : Entry) (count : ℕ) : Type 0 where
     pub store : Plain
     pub grown : append s e.anchor count x.content p ≡ grown_as store None
-    pub ready : IsReadied g lone rename t (view q) store q.hand
+    pub ready : IsReadied g lot rename t e.anchor (view q) store q.hand
     pub grows : Grows q store (with_taken e (e.taken + count)) (record x { content = x.content + count })
     pub tabs : store.tabs ≡ p.tabs
     pub others : Others t (view pass) (view q)
     pub version : (place_at store e.anchor).version ≡ (place_at p e.anchor).version
 
-  module _ (pass q : Pass C) (p : Plain) (e : Writing_) (x : Entry) (ready : IsReadied g lone rename t (view pass) p pass.hand) (h : Grows pass p e x) (count : ℕ) (w : WritesAs tells state offers st q t (with_taken e (e.taken + count))) where
+  module _ (pass q : Pass C) (p : Plain) (e : Writing_) (x : Entry) (ready : IsReadied g lot rename t e.anchor (view pass) p pass.hand) (ours : lot.anchors e.anchor ≡ true) (h : Grows pass p e x) (count : ℕ) (w : WritesAs tells state offers st q t (with_taken e (e.taken + count))) where
     abbrev after : Writing_
     after = with_taken e (e.taken + count)
 
@@ -158,16 +158,17 @@ module _ {C O : Type 0} (tells : Bool) (state : C → CellState) (offers : O →
       store = resize e.anchor (x.content + count) p;
       grown = append_here s e.anchor count x.content p level;
       ready = record {
-        knows = regrown q p after w x h.there h.grows (x.content + count) (stage_of_entry room Growing (x.content + count)) size_after
-            (subst (λ (z : View (List ℕ)). KnowsBut g rename z p no_guests e.anchor) (sym same) (knows_but g rename (view pass) p no_guests e.anchor ready.knows))
-            (ap (λ (z : View (List ℕ)). has g z (Anchor e.anchor)) same ∙ word_staged g rename (view pass) p e.anchor (shown_at pass p e x ready h) x h.there (stage_of_entry room Growing (x.content + count)) stage_is)
+        knows = regrown q p after w x h.there h.grows (x.content + count) (stage_of_entry room Growing (x.content + count)) size_after owns ours
+            (subst (λ (z : View (List ℕ)). KnowsLotBut g rename lot z p no_guests e.anchor) (sym same) (knows_but g rename (view pass) p no_guests e.anchor ready.knows))
+            (ap (λ (z : View (List ℕ)). has g z (Anchor e.anchor)) same ∙ word_staged g rename (view pass) p e.anchor (shown_at pass p e x ready ours h) x h.there (stage_of_entry room Growing (x.content + count)) stage_is)
             refl
-            (subst (λ (z : View (List ℕ)). HasNames g z e.anchor x) (sym same) (shown pass p e x ready h).names)
-            (more_offer pass p e x ready h count w.drafts.inside) (shown pass p e x ready h).drawn;
+            (subst (λ (z : View (List ℕ)). HasNames g z e.anchor x) (sym same) (shown pass p e x ready ours h).names)
+            (more_offer pass p e x ready ours h count w.drafts.inside) (shown pass p e x ready ours h).drawn;
         stands = w.rests.own.stands;
         pass = pass_of q;
+        owns = owns;
         inner_free = w.rests.inner_free;
-        quiet = quiet_on t (view pass) (view q) ready.quiet others;
+        supply = supply_resized g lot t e.anchor (x.content + count) (view q) p (supply_on g lot t e.anchor (view pass) (view q) p others ready.supply);
         hand_is = ap (λ (n : ℕ). Rattle.slice_chain.specs.Victims.hand_in g.setting.anchors n) hand ∙ ready.hand_is;
         eight = ready.eight;
       };
@@ -177,6 +178,9 @@ module _ {C O : Type 0} (tells : Bool) (state : C → CellState) (offers : O →
       version = version_kept p h.there refl;
     }
       where
+        owns : OwnsLot g lot (view q).pass
+        owns = lot_stays g lot (view pass) (view q) (ap View.pass same) ready.owns
+
         others : Others t (view pass) (view q)
         others j ne far = ap (λ (z : View (List ℕ)). tab_at z j) same
 
@@ -190,14 +194,15 @@ module _ {C O : Type 0} (tells : Bool) (state : C → CellState) (offers : O →
     behind : (bytes : List ℕ) → TookBehind tells state offers st t e bytes pass q count → HasAppended pass q p e x count
     behind bytes b = record {
       store = resize e.anchor (x.content + count) f.store;
-      grown = append_behind s e.anchor count x.content (length ps) p (level_here pass p e x ready h) level_after (ap Grown.refusal grown) ∙ ap (λ (z : Grown). grown_as (resize e.anchor (x.content + count) z.store) None) grown;
+      grown = append_behind s e.anchor count x.content (length ps) p (level_here pass p e x ready ours h) level_after (ap Grown.refusal grown) ∙ ap (λ (z : Grown). grown_as (resize e.anchor (x.content + count) z.store) None) grown;
       ready = record {
-        knows = regrown q f.store after w x there h.grows (x.content + count) stage.Appending size_after f.but f.word (let ne = ne_eqb (published room (x.content + count)) 0 (λ z. let k = level_after in omega arith) in rw ne refl) f.names
-            (more_offer pass p e x ready h count w.drafts.inside) (subst (λ (n : ℕ). 0 < n) (sym version) (shown pass p e x ready h).drawn);
+        knows = regrown q f.store after w x there h.grows (x.content + count) stage.Appending size_after f.owns ours f.but f.word (let ne = ne_eqb (published room (x.content + count)) 0 (λ z. let k = level_after in omega arith) in rw ne refl) f.names
+            (more_offer pass p e x ready ours h count w.drafts.inside) (subst (λ (n : ℕ). 0 < n) (sym version) (shown pass p e x ready ours h).drawn);
         stands = w.rests.own.stands;
         pass = pass_of q;
+        owns = f.owns;
         inner_free = w.rests.inner_free;
-        quiet = quiet_on t (view pass) (view q) ready.quiet f.others;
+        supply = supply_resized g lot t e.anchor (x.content + count) (view q) f.store f.supply;
         hand_is = f.hand_is;
         eight = ap length f.stays.tabs ∙ ready.eight;
       };
@@ -219,9 +224,21 @@ module _ {C O : Type 0} (tells : Bool) (state : C → CellState) (offers : O →
         small : length ps + 1 < limit s
         small = not_below (limit s) (length ps + 1) (λ le. b.below (let k = place_is in omega arith))
 
-        f : HasFlushed g lone rename t h.writes.rests.below e (view pass) p pass.hand ready x h.there h.grows (length ps + 1) full small (view q) q.hand
-        f = flushed_right g lone rename t h.writes.rests.below e (view pass) p pass.hand ready x h.there h.grows (length ps + 1) full small (view q) ps h.writes.end e.is_durable q.hand
-            h.writes.rests.goes_on h.writes.rests.is refl (level_here pass p e x ready h) b.flushed
+        some_bytes : (xs : List ℕ) → xs ≢ [] → 0 < length xs
+        some_bytes [] ne = absurd (ne refl)
+        some_bytes (y ∷ ys) ne = omega arith
+
+        some_room : 0 < room
+        some_room = let d = h.writes.drafts.least in let k = h.writes.drafts.within in omega arith
+
+        -- bytes of the body come behind
+        more_come : x.content < meta_size x.url + length x.body
+        more_come = let i = w.drafts.inside in let k = b.count_is in let z = some_bytes bytes b.some in let r = some_room in
+            let c = content_is pass p e x ready ours h in let l = ap length (body_is pass p e x ready ours h) in omega arith
+
+        f : HasFlushed g lot rename t h.writes.rests.below e (view pass) p pass.hand ready x h.there h.grows (length ps + 1) full small ours more_come (view q) q.hand
+        f = flushed_right g lot rename t h.writes.rests.below e (view pass) p pass.hand ready x h.there h.grows (length ps + 1) full small ours more_come (view q) ps h.writes.end e.is_durable q.hand
+            h.writes.rests.goes_on h.writes.rests.is refl (level_here pass p e x ready ours h) b.flushed
 
         there : entry_at f.store e.anchor ≡ Some x
         there = ap (λ (o : PlaceOf). o.entry) f.stays.place ∙ h.there
@@ -232,20 +249,13 @@ module _ {C O : Type 0} (tells : Bool) (state : C → CellState) (offers : O →
         grown : publish s e.anchor (length ps + 1) p ≡ grown_as f.store None
         grown = f.grown
 
-        some_bytes : (xs : List ℕ) → xs ≢ [] → 0 < length xs
-        some_bytes [] ne = absurd (ne refl)
-        some_bytes (y ∷ ys) ne = omega arith
-
         level_after : published room (x.content + count) ≡ length ps + 1
         level_after = let k = b.count_is in let z = some_bytes bytes b.some in let r = some_room in
             published_is room (length ps + 1) (x.content + count) (let c = full in omega arith) (let c = full in omega arith)
-          where
-            some_room : 0 < room
-            some_room = let d = h.writes.drafts.least in let k = h.writes.drafts.within in omega arith
 
     -- where the slot that is being filled had room
     here : (bytes : List ℕ) → TookHere tells state offers st t e bytes pass q count → HasAppended pass q p e x count
-    here bytes b = stayed b.same b.hand (published_is room (length ps) (x.content + count) (let k = above in omega arith) (let k = under in omega arith) ∙ sym (level_here pass p e x ready h))
+    here bytes b = stayed b.same b.hand (published_is room (length ps) (x.content + count) (let k = above in omega arith) (let k = under in omega arith) ∙ sym (level_here pass p e x ready ours h))
       where
         ps : List ℕ
         ps = h.writes.published
@@ -292,15 +302,15 @@ module _ {C O : Type 0} (tells : Bool) (state : C → CellState) (offers : O →
       content = let z = sum in omega arith
 
   -- So many bytes were taken by calls, one behind the other, and the plain store has added them.
-  pub took_right : (pass : Pass C) (p : Plain) (e : Writing_) (x : Entry) → IsReadied g lone rename t (view pass) p pass.hand → Grows pass p e x → (calls : List (Call C)) (q : Pass C) (total : ℕ)
+  pub took_right : (pass : Pass C) (p : Plain) (e : Writing_) (x : Entry) → IsReadied g lot rename t e.anchor (view pass) p pass.hand → lot.anchors e.anchor ≡ true → Grows pass p e x → (calls : List (Call C)) (q : Pass C) (total : ℕ)
       → Took tells state offers st t e pass calls q total → HasAppended pass q p e x total
-  took_right pass p e x ready h [] q total (same, none) =
-      stayed pass q p e x ready h total (subst (λ z. z) (λ i. WritesAs tells state offers st (sym same i) t (with_taken e (taken i))) h.writes) (ap view same) (ap (λ (z : Pass C). z.hand) same)
+  took_right pass p e x ready ours h [] q total (same, none) =
+      stayed pass q p e x ready ours h total (subst (λ z. z) (λ i. WritesAs tells state offers st (sym same i) t (with_taken e (taken i))) h.writes) (ap view same) (ap (λ (z : Pass C). z.hand) same)
       (ap (published room) (let z = none in omega arith))
     where
       taken : e.taken ≡ e.taken + total
       taken = let z = none in omega arith
-  took_right pass p e x ready h (c ∷ earlier) q total (middle, before, took, appended, is, sum) =
-      let a = took_right pass p e x ready h earlier middle before took in
-      let b = appended_right middle c.after a.store (taken_on e before) (record x { content = x.content + before }) a.ready a.grows c.count appended.writes c.bytes appended.how in
+  took_right pass p e x ready ours h (c ∷ earlier) q total (middle, before, took, appended, is, sum) =
+      let a = took_right pass p e x ready ours h earlier middle before took in
+      let b = appended_right middle c.after a.store (taken_on e before) (record x { content = x.content + before }) a.ready ours a.grows c.count appended.writes c.bytes appended.how in
       subst (λ (z : Pass C). HasAppended pass z p e x total) (sym is) (then_right pass middle c.after p e x before c.count total (some_room pass e h.writes) sum a b)

@@ -1,5 +1,5 @@
 -- What is known of the plain store once an anchor was taken for a new entry.
-use Rattle.std.proofs.Common.{Bool, Contains, List, Some, [], ap, arith, cond, eq-eqb, false, get_or, get_or-set_other, get_or-set_same, inl, inr, length, length-set, refl, subst, sym, true, ◌+◌, ◌-◌, ◌<◌, ◌∙◌, ◌≡◌, ◌≤◌, ◌⊎◌, ℕ}
+use Rattle.std.proofs.Common.{Bool, Contains, List, Some, [], ap, arith, cond, eq-eqb, false, get_or, get_or-set_other, get_or-set_same, inl, inr, length, length-set, refl, set, subst, sym, true, ◌+◌, ◌-◌, ◌<◌, ◌∙◌, ◌≡◌, ◌≤◌, ◌⊎◌, ℕ}
 use Rattle.std.proofs.lemmas.Bool.{false≢true}
 use Rattle.std.specs.Prelude.{◌||◌}
 use Rattle.std.proofs.Math.Nat.{div-eq_of_lt}
@@ -49,11 +49,11 @@ use Rattle.rw_anchor.proofs.Drawing.{same_find}
 use Rattle.slice_chain.specs.Freeing.{Freed}
 use Rattle.slice_chain.specs.Names.{Named}
 use Rattle.rock_writer.specs.Beginning.{Overtaken, Took, TookAnchor, WasIdle, WasVacant}
-use Rattle.rock_writer.proofs.Begun.{looked_last, took_idle, took_vacant}
-use Rattle.plain_runs.specs.Words.{HasChain, IsLone, IsOfOffer, Knows, ShowsAt, ShowsEntryIf, no_guests, setting_of}
-use Rattle.plain_runs.proofs.Frames.{SameBut, knows_same, shows_elsewhere, step_same}
-use Rattle.plain_runs.proofs.Freeing.{FewReaders, KnowsBut, SameElse, but_moved, but_step, same_else, freed_but, knows_all, knows_but, same_freer}
-use Rattle.plain_runs.proofs.OwnAnchors.{OwnsAnchor, mine_lone, pass_stays}
+use Rattle.rock_writer.proofs.Begun.{drew_pass, looked_last, took_idle, took_vacant}
+use Rattle.plain_runs.specs.Words.{HasChain, IsLone, IsOfOffer, Knows, KnowsLot, Lot, ShowsAt, ShowsEntryIf, no_guests, setting_of, whole_lot}
+use Rattle.plain_runs.proofs.Frames.{SameBut, knows_same, same_on, shows_elsewhere, step_same}
+use Rattle.plain_runs.proofs.Freeing.{FewReaders, KnowsLotBut, SameElse, but_moved, but_step, same_else, freed_but, knows_all, knows_but, same_freer}
+use Rattle.plain_runs.proofs.OwnAnchors.{OwnsAnchor, OwnsLot, lot_stays, mine_lone, pass_stays}
 use Rattle.plain_runs.proofs.PlainWords.{idle_there, readers_put, readers_there, vacant_there}
 use Rattle.plain_runs.proofs.QuietSteps.{step_quiet}
 
@@ -68,6 +68,35 @@ module _ (g : Ground (List ℕ)) where
 
   pub looked_same : (v w : View (List ℕ)) (a n : ℕ) → Mine g v (Anchor a) → Steps g v (Look a) n w → SameBut g v w (λ q. ⊥)
   looked_same v w a n mine st = step_quiet g v w (Look a) n (Anchor a) st refl refl refl mine
+
+-- What a draw tells: the version stands for the next one of the plain store.
+pub record DrewNext (g : Ground (List ℕ)) (lot : Lot) (rename : ℕ → ℕ) (w : View (List ℕ)) (version : ℕ) (p : Plain) (guests : ℕ → ℕ) : Type 0 where
+  pub version_is : version ≡ rename (p.counter + 1)
+  pub left : p.counter < version_limit
+  pub knows : KnowsLot g rename lot w (counted_on p) guests
+
+-- Of a lot without the counter a draw leaves all that is known.
+pub drew_lot : (g : Ground (List ℕ)) (lot : Lot) (rename : ℕ → ℕ) (v w : View (List ℕ)) (version : ℕ) (p : Plain) (guests : ℕ → ℕ) → lot.counter ≡ false → KnowsLot g rename lot v p guests → Drew g v version w
+    → KnowsLot g rename lot w (counted_on p) guests
+drew_lot g lot rename v w version p guests none h d = record {
+  counter = λ has. absurd (false≢true (sym none ∙ has));
+  many = h.many;
+  each = λ a lt ours. shows_elsewhere g rename v w (λ q. (q ≡ Counter) ⊎ (q ≡ Counter)) p (counted_on p) (guests a) a lt (h.each a lt ours) refl refl
+      (same_on g v d.middle w (λ q. q ≡ Counter) (λ q. q ≡ Counter) (step_same g v d.middle Count d.counted Counter d.look refl tt) (step_same g d.middle w Draw d.found Counter d.draw refl tt))
+      record { word = λ e. no_word a e; sides = λ side e. no_side side a e; links = λ x there chain j c e. no_link j e };
+}
+  where
+    no_word : (a : ℕ) → (Anchor a ≡ Counter) ⊎ (Anchor a ≡ Counter) → ⊥
+    no_word a (inl e) = cc
+    no_word a (inr e) = cc
+
+    no_side : (side : Side) (a : ℕ) → (Beside side a ≡ Counter) ⊎ (Beside side a ≡ Counter) → ⊥
+    no_side side a (inl e) = cc
+    no_side side a (inr e) = cc
+
+    no_link : (j : ℕ) → (Link j ≡ Counter) ⊎ (Link j ≡ Counter) → ⊥
+    no_link j (inl e) = cc
+    no_link j (inr e) = cc
 
 module _ (g : Ground (List ℕ)) (lone : IsLone g) where
   -- so does a look at the counter
@@ -86,17 +115,11 @@ module _ (g : Ground (List ℕ)) (lone : IsLone g) where
           record { word = λ e. cc; sides = λ side e. cc; links = λ x there chain j c e. cc };
     }
 
-    -- what a draw tells: the version is the next one
-    pub record DrewNext (w : View (List ℕ)) (version : ℕ) (p : Plain) (guests : ℕ → ℕ) : Type 0 where
-      pub version_is : version ≡ p.counter + 1
-      pub left : p.counter < version_limit
-      pub knows : Knows g rename w (counted_on p) guests
-
-    pub drew_next : (v w : View (List ℕ)) (version : ℕ) (p : Plain) (guests : ℕ → ℕ) → Knows g rename v p guests → Drew g v version w → DrewNext w version p guests
-    drew_next v w version p guests h d =
+    pub drew_next : (v w : View (List ℕ)) (version : ℕ) (p : Plain) (guests : ℕ → ℕ) → rename (p.counter + 1) ≡ p.counter + 1 → Knows g rename v p guests → Drew g v version w → DrewNext g whole_lot rename w version p guests
+    drew_next v w version p guests next h d =
         let k : Knows g rename d.middle p guests = knows_same g rename v d.middle p guests h (counted_same v d.middle d.counted d.look) in
         let f : d.found ≡ p.counter = found_mine g d.middle w Draw d.found Counter d.draw (mine_lone g lone d.middle Counter) refl ∙ k.counter refl in record {
-          version_is = sym d.version_is ∙ ap (λ (z : ℕ). z + 1) f;
+          version_is = sym d.version_is ∙ (ap (λ (z : ℕ). z + 1) f ∙ sym next);
           left = subst (λ (z : ℕ). z < version_limit) f d.left;
           knows = drew_knows d.middle w d.found p guests k d.draw;
         }
@@ -149,28 +172,30 @@ taken_else t a e p free inside = record {
   readers = λ b ne. readers_taken t a b e p free inside;
 }
 
-module _ (g : Ground (List ℕ)) (lone : IsLone g) (rename : ℕ → ℕ) where
-  module _ (t a n version : ℕ) (v w : View (List ℕ)) (took : TookAnchor g t a v n version w) (p : Plain) (h : Knows g rename v p no_guests) where
+module _ (g : Ground (List ℕ)) (lot : Lot) (rename : ℕ → ℕ) where
+  module _ (t a n version : ℕ) (v w : View (List ℕ)) (took : TookAnchor g t a v n version w) (p : Plain) (owns : OwnsLot g lot v.pass) (ours : lot.anchors a ≡ true)
+      (drew : DrewNext g lot rename took.drawn version p no_guests) where
     pub inside : a < g.setting.anchors
     inside = took.looks.may.allowed
 
     -- the word was the one that is known
     pub took_found : n ≡ has g v (Anchor a)
-    took_found = looked_is g v took.seen a n (mine_lone g lone v (Anchor a)) took.looks
+    took_found = looked_is g v took.seen a n ((owns a inside ours).words v (Anchor a) refl refl) took.looks
 
-    pub took_drew : DrewNext g lone rename took.drawn version p no_guests
-    took_drew = drew_next g lone rename took.seen took.drawn version p no_guests (knows_same g rename v took.seen p no_guests h (looked_same g v took.seen a n (mine_lone g lone v (Anchor a)) took.looks)) took.drew
-
-    found_last : n ≡ last_find a took.drawn.trail
+    pub found_last : n ≡ last_find a took.drawn.trail
     found_last = sym (same_find g took.seen took.drawn version took.drew a ∙ looked_last g v took.seen a n took.looks)
+
+    -- the pass keeps its number
+    pub took_pass : w.pass ≡ v.pass
+    took_pass = pass_stays g took.drawn w (Take t a version) n took.takes ∙ (drew_pass g took.seen took.drawn version took.drew ∙ pass_stays g v took.seen (Look a) n took.looks)
 
     -- what stands there now
     pub took_word : has g w (Anchor a) ≡ word_of version 1
     took_word = has_left g took.drawn w (Take t a version) n (Anchor a) took.takes refl ∙ (let e = eq-eqb n (last_find a took.drawn.trail) found_last in rw e refl)
 
-    pub took_but : (e : Entry) → tab_at p t ≡ Free → t < length p.tabs → KnowsBut g rename w (taken_by t a e p) no_guests a
+    pub took_but : (e : Entry) → tab_at p t ≡ Free → t < length p.tabs → KnowsLotBut g rename lot w (taken_by t a e p) no_guests a
     took_but e free below = but_step g rename took.drawn w (Take t a version) n (counted_on p) (taken_by t a e p) no_guests a took.takes refl inside (taken_else t a e p free below)
-        (knows_but g rename took.drawn (counted_on p) no_guests a took_drew.knows)
+        (knows_but g rename took.drawn (counted_on p) no_guests a drew.knows)
 
 module _ (g : Ground (List ℕ)) where
   -- A try that another pass overtook finds the word that was looked at, at an anchor that is the pass's own.
@@ -210,8 +235,8 @@ module _ (g : Ground (List ℕ)) where
         of_one q e (inl x) = no_link x.0 (ap (index g.setting) (sym x.1) ∙ e)
         of_one q e (inr x) = false≢true (sym (ap (λ (f : Freer (List ℕ)). f.is_freeing) freer_is) ∙ x.0)
 
-    pub freed_else : IsLone g → (rename : ℕ → ℕ) (p : Plain) → FewReaders p no_guests → KnowsBut g rename v p no_guests a → KnowsBut g rename w p no_guests a
-    freed_else lone rename p few h = freed_but g rename lone v w p no_guests a few freed (ap (λ (f : Freer (List ℕ)). f.anchor) freer_is) h
+    pub freed_else : {lot : Lot} → OwnsLot g lot v.pass → IsPass v → (rename : ℕ → ℕ) (p : Plain) → FewReaders p no_guests → KnowsLotBut g rename lot v p no_guests a → KnowsLotBut g rename lot w p no_guests a
+    freed_else owns nine rename p few h = freed_but g rename v w nine freed p no_guests a few owns (ap (λ (f : Freer (List ℕ)). f.anchor) freer_is) h
 
 module _ (g : Ground (List ℕ)) (rename : ℕ → ℕ) where
   -- The entry is named.
@@ -232,20 +257,20 @@ module _ (g : Ground (List ℕ)) (rename : ℕ → ℕ) where
         ∙ ap anchor_of (get_or-set_same v.tabs t (stores (tab_in v t) side value) TabOf.Free (let nine = st.may.pass in let b = st.may.allowed.0 in omega arith))
         ∙ stores_anchor (tab_in v t) side value ∙ at
 
-    pub stored_but : (p : Plain) (guests : ℕ → ℕ) → a < g.setting.anchors → KnowsBut g rename v p guests a → KnowsBut g rename w p guests a
+    pub stored_but : {lot : Lot} (p : Plain) (guests : ℕ → ℕ) → a < g.setting.anchors → KnowsLotBut g rename lot v p guests a → KnowsLotBut g rename lot w p guests a
     stored_but p guests lt h = but_moved g rename v w (λ q. q ≡ Beside side a) p p guests a (stored_same lt) (same_else p a) (λ e. cc)
         (λ b there own ne. record { word = λ e. cc; sides = λ other e. ne (same_beside other side b a e); links = λ x is chain j c e. cc }) h
 
   -- all its names were, one after the other
-  pub record IsNamed (a : ℕ) (key : List ℕ) (offer : ℕ) (v w : View (List ℕ)) (p : Plain) (guests : ℕ → ℕ) : Type 0 where
+  pub record IsNamed (lot : Lot) (a : ℕ) (key : List ℕ) (offer : ℕ) (v w : View (List ℕ)) (p : Plain) (guests : ℕ → ℕ) : Type 0 where
     pub key0 : has g w (Beside Key0 a) ≡ front_half key
     pub key1 : has g w (Beside Key1 a) ≡ back_half key
     pub offer_is : has g w (Beside Offer a) ≡ offer
     pub start : has g w (Beside Start a) ≡ 0
     pub word : has g w (Anchor a) ≡ has g v (Anchor a)
-    pub but : KnowsBut g rename w p guests a
+    pub but : KnowsLotBut g rename lot w p guests a
 
-  pub named_right : (t a : ℕ) (key : List ℕ) (offer : ℕ) (v w : View (List ℕ)) (p : Plain) (guests : ℕ → ℕ) → a < g.setting.anchors → anchor_of (tab_in v t) ≡ a → Named g t v key offer w → KnowsBut g rename v p guests a → IsNamed a key offer v w p guests
+  pub named_right : {lot : Lot} (t a : ℕ) (key : List ℕ) (offer : ℕ) (v w : View (List ℕ)) (p : Plain) (guests : ℕ → ℕ) → a < g.setting.anchors → anchor_of (tab_in v t) ≡ a → Named g t v key offer w → KnowsLotBut g rename lot v p guests a → IsNamed lot a key offer v w p guests
   named_right t a key offer v w p guests lt at n h = record {
     key0 = s3.same (Beside Key0 a) tt lt (λ e. cc) ∙ s2.same (Beside Key0 a) tt lt (λ e. cc) ∙ s1.same (Beside Key0 a) tt lt (λ e. cc) ∙ stored_is t a n.found0 Key0 (front_half key) v n.middle0 n.front at;
     key1 = s3.same (Beside Key1 a) tt lt (λ e. cc) ∙ s2.same (Beside Key1 a) tt lt (λ e. cc) ∙ stored_is t a n.found1 Key1 (back_half key) n.middle0 n.middle1 n.back a0;
@@ -341,10 +366,10 @@ module _ (g : Ground (List ℕ)) (a offer : ℕ) (url body : List ℕ) (response
         there : place_at (taken_by t a begun p) a ≡ new_place p.counter begun
         there = get_or-set_same p.places a (new_place p.counter begun) nothing inside
 
-module _ (g : Ground (List ℕ)) (lone : IsLone g) (rename : ℕ → ℕ) (t a n version : ℕ) (v w : View (List ℕ)) (inner_free : InnerIsFree v) (p : Plain) (h : Knows g rename v p no_guests) (few : FewReaders p no_guests)
-    (free : tab_at p t ≡ Free) (below : t < length p.tabs) (took : Took g t a v n version w) where
+module _ (g : Ground (List ℕ)) (lot : Lot) (rename : ℕ → ℕ) (t a n version : ℕ) (v w : View (List ℕ)) (inner_free : InnerIsFree v) (p : Plain) (owns : OwnsLot g lot v.pass) (ours : lot.anchors a ≡ true)
+    (h : KnowsLot g rename lot v p no_guests) (few : FewReaders p no_guests) (free : tab_at p t ≡ Free) (below : t < length p.tabs) (took : Took g t a v n version w) (drew : DrewNext g lot rename took.took.drawn version p no_guests) where
   lt : a < g.setting.anchors
-  lt = inside g lone rename t a n version v took.taken took.took p h
+  lt = inside g lot rename t a n version v took.taken took.took p owns ours drew
 
   writes_below : t < inner
   writes_below = took.took.takes.may.allowed.1.writes
@@ -353,7 +378,7 @@ module _ (g : Ground (List ℕ)) (lone : IsLone g) (rename : ℕ → ℕ) (t a n
   nine = took.took.looks.may.pass
 
   found_is : n ≡ word_number (renamed_word rename (word_at (setting_of g) p a)) + 0
-  found_is = took_found g lone rename t a n version v took.taken took.took p h ∙ (h.each a lt refl).word
+  found_is = took_found g lot rename t a n version v took.taken took.took p owns ours drew ∙ (h.each a lt ours).word
 
   -- the anchor was vacant or idle, and so nobody read there
   pub took_open : (is_vacant_at p a || is_idle_at p a) ≡ true
@@ -381,7 +406,7 @@ module _ (g : Ground (List ℕ)) (lone : IsLone g) (rename : ℕ → ℕ) (t a n
   pub record IsTaken (e : Entry) : Type 0 where
     pub word : has g w (Anchor a) ≡ word_of version 1
     pub tab : tab_in w t ≡ TabOf.Writing (writer_of a version)
-    pub but : KnowsBut g rename w (taken_by t a e p) no_guests a
+    pub but : KnowsLotBut g rename lot w (taken_by t a e p) no_guests a
 
   few_after : (e : Entry) → FewReaders (taken_by t a e p) no_guests
   few_after e b = let k = readers_taken t a b e p free below in let f = few b in omega arith
@@ -389,37 +414,49 @@ module _ (g : Ground (List ℕ)) (lone : IsLone g) (rename : ℕ → ℕ) (t a n
   pub is_taken : (e : Entry) → IsTaken e
   is_taken e = of_cleared took.cleared
     where
-      taken_word : has g took.taken (Anchor a) ≡ word_of version 1
-      taken_word = took_word g lone rename t a n version v took.taken took.took p h
+      number : took.taken.pass ≡ v.pass
+      number = took_pass g lot rename t a n version v took.taken took.took p owns ours drew
 
-      taken_but : KnowsBut g rename took.taken (taken_by t a e p) no_guests a
-      taken_but = took_but g lone rename t a n version v took.taken took.took p h e free below
+      taken_word : has g took.taken (Anchor a) ≡ word_of version 1
+      taken_word = took_word g lot rename t a n version v took.taken took.took p owns ours drew
+
+      taken_but : KnowsLotBut g rename lot took.taken (taken_by t a e p) no_guests a
+      taken_but = took_but g lot rename t a n version v took.taken took.took p owns ours drew e free below
+
+      cleared_first : List (TabOf (List ℕ))
+      cleared_first = set took.took.drawn.tabs inner (Freeing (freer_of a false n (chain_found took.took.takes.state (Take t a version))))
+
+      taken_tabs : is_idle n ≡ true → length took.taken.tabs ≡ length (set cleared_first t (TabOf.Writing (writer_of a version)))
+      taken_tabs idle = ap (λ (z : View (List ℕ)). length z.tabs) took.took.takes.leaves
+          ∙ (let z = eq-eqb n (last_find a took.took.drawn.trail) (found_last g lot rename t a n version v took.taken took.took p owns ours drew) in rw (z, idle) refl)
+
+      taken_long : is_idle n ≡ true → IsPass took.taken
+      taken_long idle = taken_tabs idle ∙ (length-set cleared_first t (TabOf.Writing (writer_of a version))
+          ∙ (length-set took.took.drawn.tabs inner (Freeing (freer_of a false n (chain_found took.took.takes.state (Take t a version)))) ∙ took.took.takes.may.pass))
 
       of_idle : (idle : is_idle n ≡ true) → Freed g took.taken w → IsTaken e
       of_idle idle f = let k = took_idle g t a n version v took.taken nine writes_below inner_free took.took idle in record {
-        word = freed_word g took.taken w f a n (chain_found took.took.takes.state (Take t a version)) k.1 (mine_lone g lone took.taken (Anchor a)) lt ∙ taken_word;
+        word = freed_word g took.taken w f a n (chain_found took.took.takes.state (Take t a version)) k.1 ((owns a lt ours).words took.taken (Anchor a) number refl) lt ∙ taken_word;
         tab = ap (λ (xs : List (TabOf (List ℕ))). get_or xs t TabOf.Free) f.tabs ∙ get_or-set_other took.taken.tabs inner t TabOf.Free TabOf.Free (λ z. let b = writes_below in omega arith) ∙ k.0;
-        but = freed_else g took.taken w f a n (chain_found took.took.takes.state (Take t a version)) k.1 lone rename (taken_by t a e p) (few_after e) taken_but;
+        but = freed_else g took.taken w f a n (chain_found took.took.takes.state (Take t a version)) k.1 (lot_stays g lot v took.taken number owns)
+            (taken_long idle) rename (taken_by t a e p) (few_after e) taken_but;
       }
 
       of_cleared : WasVacant g t a v n took.taken w ⊎ WasIdle g t a v n took.taken w → IsTaken e
       of_cleared (inl x) = record {
         word = ap (λ (z : View (List ℕ)). has g z (Anchor a)) x.same ∙ taken_word;
         tab = ap (λ (z : View (List ℕ)). tab_in z t) x.same ∙ (took_vacant g t a n version v took.taken nine writes_below inner_free took.took x.vacant).0;
-        but = subst (λ (z : View (List ℕ)). KnowsBut g rename z (taken_by t a e p) no_guests a) (sym x.same) taken_but;
+        but = subst (λ (z : View (List ℕ)). KnowsLotBut g rename lot z (taken_by t a e p) no_guests a) (sym x.same) taken_but;
       }
       of_cleared (inr x) = of_idle x.idle x.freed
 
-  pub took_next : DrewNext g lone rename took.took.drawn version p no_guests
-  took_next = took_drew g lone rename t a n version v took.taken took.took p h
-
   -- and the entry named
-  module _ (offer : ℕ) (url body : List ℕ) (response : IsOffered g a offer url body) (from : g.setting.slots ≤ offer) (at : anchor_for g url ≡ a) (renamed : rename (p.counter + 1) ≡ p.counter + 1)
+  module _ (offer : ℕ) (url body : List ℕ) (response : IsOffered g a offer url body) (from : g.setting.slots ≤ offer) (at : anchor_for g url ≡ a)
       (u : View (List ℕ)) (named : Named g t w (key_of url) offer u) where
-    pub began_knows : Knows g rename u (taken_by t a (entry_of url body offer) p) no_guests
+    pub began_knows : KnowsLot g rename lot u (taken_by t a (entry_of url body offer) p) no_guests
     began_knows =
         let e = entry_of url body offer in
         let k = is_taken e in
         let m = named_right g rename t a (key_of url) offer w u (taken_by t a e p) no_guests lt (ap anchor_of k.tab) named k.but in
         knows_all g rename u (taken_by t a e p) no_guests a m.but (λ inside own. begun_shown g a offer url body response from at rename u t p (let many = h.many in let l = lt in omega arith) free below unread
-        (m.word ∙ k.word ∙ ap (λ (z : ℕ). word_of z 1) (took_next.version_is ∙ sym renamed)) m.key0 m.key1 m.offer_is m.start)
+        (m.word ∙ k.word ∙ ap (λ (z : ℕ). word_of z 1) drew.version_is) m.key0 m.key1 m.offer_is m.start)

@@ -7,7 +7,7 @@ use Rattle.script_text.specs.declared.answer.Answer.{Answer}
 use Rattle.script_text.specs.declared.answer.Answer.TheVariants as answer
 use Rattle.script_text.specs.declared.line.Line.{Line}
 use Rattle.script_text.specs.declared.request.Request.{Request}
-use Rattle.script_text.specs.declared.request.Request.TheVariants.{Add, Await, Begin, CloseTab, DropTab, End, Mark, More, OpenTab, Purge}
+use Rattle.script_text.specs.declared.request.Request.TheVariants.{Add, Await, Begin, CloseTab, DropTab, End, Mark, More, OpenTab, Purge, Wipe}
 use Rattle.core_model.specs.declared.tab.Tab.{Tab}
 use Rattle.core_model.specs.declared.tab.Tab.TheVariants as tab
 use Rattle.core_model.specs.declared.view.View.{View}
@@ -49,9 +49,10 @@ module _ {C O : Type 0} (tells : Bool) (state : C → CellState) (offers : O →
       of_tab (Reading a given is_other) is h = let r = subst (ShowsTab tells state offers s (λ v. v) p plain t) is h in let k = sym r.reads.is ∙ free in cc
 
   -- a request leaves the tab of whole requests free
-  whole_stays : (number : ℕ) (p : Pass C) (a : Answer) (q : Pass C) (request : Request) → MayAsk tells state offers s number request → ServesRequest tells state offers s number p a q request
+  pub whole_stays : (number : ℕ) (p : Pass C) (a : Answer) (q : Pass C) (request : Request) → MayAsk tells state offers s number request → ServesRequest tells state offers s number p a q request
       → ((t : ℕ) → UsesTab request t → Leaves tells state offers s t p q) → IsFree p whole_tab → IsFree q whole_tab
   whole_stays number p a q (Purge url) asks served leaves free = ap (λ (ts : List (Tab (List ℕ))). slice_index_or ts whole_tab tab.Free) served.same ∙ free
+  whole_stays number p a q (Wipe url) asks served leaves free = ap (λ (ts : List (Tab (List ℕ))). slice_index_or ts whole_tab tab.Free) served.same ∙ free
   whole_stays number p a q (Begin t url body) asks served leaves free = (leaves t refl).others whole_tab (λ e. let z = e in let l = asks.0 in omega arith) (λ e. let z = e in omega arith) ∙ free
   whole_stays number p a q (Add t count) asks served leaves free = (leaves t refl).others whole_tab (λ e. let z = e in omega arith) (λ e. let z = e in omega arith) ∙ free
   whole_stays number p a q (End t) asks served leaves free = (leaves t refl).others whole_tab (λ e. let z = e in omega arith) (λ e. let z = e in omega arith) ∙ free
@@ -64,7 +65,7 @@ module _ {C O : Type 0} (tells : Bool) (state : C → CellState) (offers : O →
   whole_stays number p a q _ asks served leaves free = served.free
 
 -- a request that is served uses a tab
-uses : (request : Request) → IsServed request → (tab : ℕ) × UsesTab request tab
+pub uses : (request : Request) → IsServed request → (tab : ℕ) × UsesTab request tab
 uses (Begin tab url body) served = (tab, refl)
 uses (Add tab count) served = (tab, refl)
 uses (End tab) served = (tab, refl)

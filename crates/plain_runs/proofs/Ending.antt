@@ -33,7 +33,7 @@ use Rattle.plain_model.specs.declared.entry.Place.{Place as PlaceOf}
 use Rattle.plain_model.specs.declared.store.Plain.{Plain}
 use Rattle.plain_model.specs.declared.store.Refusal.TheVariants.{Full}
 use Rattle.plain_model.specs.declared.store.Setting.{Setting}
-use Rattle.plain_model.specs.Slots.{claim, grown_as}
+use Rattle.plain_model.specs.Slots.{claim, grown_as, held, held_by}
 use Rattle.plain_model.specs.declared.store.Tab.{Tab as PlainTab}
 use Rattle.plain_model.specs.declared.store.Tab.TheVariants as plain
 use Rattle.plain_model.specs.Store.{entry_at, meta_size, place_at, published, readers, stage_of_entry, tab_at as plain_tab}
@@ -57,18 +57,19 @@ use Rattle.store_rule.specs.declared.store.Store.{Store}
 use Rattle.tab_states.specs.Desks.{draft_at}
 use Rattle.store_rule.specs.Ground.{Ground, Offers, cut_of, url_of}
 use Rattle.store_rule.specs.Passes.{basis, view}
-use Rattle.plain_runs.specs.Words.{IsLone, IsOfOffer, Knows, ShowsAt, ShowsEntry, no_guests, setting_of}
+use Rattle.plain_runs.specs.Words.{IsOfOffer, KnowsLot, Lot, ShowsAt, ShowsEntry, no_guests, setting_of}
 use Rattle.plain_runs.proofs.Adding.{Grows, body_is, content_is, level_here, writer_there}
 use Rattle.plain_runs.proofs.Flushing.{PieceOut, entry_shown, piece_out, staged, word_staged}
 use Rattle.plain_runs.proofs.Frames.{SameBut, same_weaker}
-use Rattle.plain_runs.proofs.Freeing.{KnowsBut, knows_but, same_else}
+use Rattle.plain_laws.proofs.Sums.{held_unfinished, hold}
+use Rattle.plain_runs.proofs.Freeing.{KnowsLotBut, knows_but, same_else}
 use Rattle.plain_runs.proofs.Halting.{ended_right, growing_stage, raised_so}
 use Rattle.plain_runs.proofs.PlainWords.{doom_counted, readers_fit}
-use Rattle.plain_runs.proofs.OwnAnchors.{mine_lone, owns_lone, stands_before}
+use Rattle.plain_runs.proofs.OwnAnchors.{OwnsLot, lot_stays, stands_before}
 use Rattle.plain_runs.proofs.Published.{Linking, Touched, chain_of_tab, no_anchor, touched_but, touched_linking, touched_names}
 use Rattle.plain_runs.proofs.Growth.{grown_done, grown_not, grown_of}
 use Rattle.plain_runs.proofs.Publishing.{HasGrown, HasRunShort, first_claimed, stays_none}
-use Rattle.plain_runs.proofs.Reserving.{HasClaimed, HasRunOut, IsReadied, runs_out}
+use Rattle.plain_runs.proofs.Reserving.{HasClaimed, HasRunOut, IsAmple, IsReadied, runs_out, some_cap}
 
 some_none : {A : Type 0} {x : A} → Some x ≡ None → ⊥
 some_none e = cc
@@ -83,7 +84,7 @@ last_first s content p none = ap (λ (b : Bool). cond b (grown_of (claim s 0 p))
 last_later : (s : Setting) (content : ℕ) (p : Plain) → published s.room content ≢ 0 → last_slot s content p ≡ grown_as p None
 last_later s content p more = ap (λ (b : Bool). cond b (grown_of (claim s 0 p)) (grown_as p None)) (ne_eqb (published s.room content) 0 more)
 
-module _ (g : Ground (List ℕ)) (lone : IsLone g) (rename : ℕ → ℕ) (t : ℕ) (below : t < inner) (e : Writing_) (v : View (List ℕ)) (p : Plain) (hand : ℕ) (h : IsReadied g lone rename t v p hand)
+module _ (g : Ground (List ℕ)) (lot : Lot) (rename : ℕ → ℕ) (t : ℕ) (below : t < inner) (e : Writing_) (v : View (List ℕ)) (p : Plain) (hand : ℕ) (h : IsReadied g lot rename t e.anchor v p hand)
     (x : Entry) (there : entry_at p e.anchor ≡ Some x) (grows : x.life ≡ Growing) where
   abbrev s : Setting
   s = setting_of g
@@ -93,7 +94,7 @@ module _ (g : Ground (List ℕ)) (lone : IsLone g) (rename : ℕ → ℕ) (t : �
 
   -- The slot for the last piece is there, in the plain store too.
   abbrev HasLast : (u : View (List ℕ)) (ps : List ℕ) (end : LinkOf) (slot hand_after : ℕ) → Type 0
-  HasLast u ps end slot hand_after = (q : Plain) × (last_slot s x.content p ≡ grown_as q None) × HasGrown g lone rename t below e v u p ps end (slot ∷ []) hand_after q
+  HasLast u ps end slot hand_after = (q : Plain) × (last_slot s x.content p ≡ grown_as q None) × HasGrown g lot rename t below e v u p ps end (slot ∷ []) hand_after q
 
   pub slot_right : (ps : List ℕ) (end : LinkOf) (slot hand_after : ℕ) (u : View (List ℕ)) → GoesOn ps end → tab_at v t ≡ W ps end (slots_of_link end) → published s.room x.content ≡ length ps → SlotFor g t hand v slot u hand_after → HasLast u ps end slot hand_after
   slot_right [] end slot hand_after u goes is level for = subst (λ (z : LinkOf). HasLast u [] z slot hand_after) (sym goes) (
@@ -102,17 +103,21 @@ module _ (g : Ground (List ℕ)) (lone : IsLone g) (rename : ℕ → ℕ) (t : �
     record { readied = c.readied; tab = c.tab ∙ ap (λ (z : Tab (List ℕ)). reserves z slot) at; others = c.others; stays = c.stays },
   )
     where
+      none_held : (m : IsAmple g e.anchor p) → held s.room (place_at p e.anchor) + 0 < m.cap
+      none_held m = let some = some_cap g e.anchor p m in
+          let none : held s.room (place_at p e.anchor) ≡ 0 = ap (held_by s.room) there ∙ (held_unfinished s.room x Growing grows (inl refl) ∙ ap hold level) in omega arith
+
       at : tab_at v t ≡ W [] NotWritten []
       at = is ∙ ap (λ (z : LinkOf). W [] z (slots_of_link z)) goes
 
-      c : HasClaimed g lone rename t 0 e.anchor v u p hand_after slot
-      c = first_claimed g lone rename t below e v p hand h x there grows slot hand_after u at for
+      c : HasClaimed g lot rename t 0 e.anchor v u p hand_after slot
+      c = first_claimed g lot rename t below e v p hand h x there grows slot hand_after u none_held at for
   slot_right (y ∷ ys) end slot hand_after u goes is level (inr needs) = absurd (some_none (ap reserved_first (sym (is ∙ ap (λ (z : LinkOf). W (y ∷ ys) z (slots_of_link z)) goes.1)) ∙ needs.none))
   slot_right (y ∷ ys) end slot hand_after u goes is level (inl has) = subst (λ (z : LinkOf). HasLast u (y ∷ ys) z slot hand_after) (sym goes.1) (
     p,
     last_later s x.content p (λ none. let l = level in omega arith),
     record {
-      readied = subst (λ z. z) (λ i. IsReadied g lone rename t (sym has.same i) p (sym has.stays i)) h;
+      readied = subst (λ z. z) (λ i. IsReadied g lot rename t e.anchor (sym has.same i) p (sym has.stays i)) h;
       tab = ap (λ (z : View (List ℕ)). tab_at z t) has.same ∙ at ∙ ap (λ (z : ℕ). W (y ∷ ys) (Next goes.0) (z ∷ [])) (some_same (ap reserved_first (sym at) ∙ has.first));
       others = λ j ne far. ap (λ (z : View (List ℕ)). tab_at z j) has.same;
       stays = stays_none p e.anchor;
@@ -124,8 +129,8 @@ module _ (g : Ground (List ℕ)) (lone : IsLone g) (rename : ℕ → ℕ) (t : �
 
   -- Or it is not, in the plain store neither.
   pub lacks_right : (ps : List ℕ) (end : LinkOf) (u : View (List ℕ)) → GoesOn ps end → tab_at v t ≡ W ps end (slots_of_link end) → published s.room x.content ≡ length ps → LacksSlot g t hand v u
-      → (last_slot s x.content p ≡ grown_as p (Some Full)) × (rs : List ℕ) × HasRunShort g lone rename t below e v u p ps end rs hand p
-  lacks_right [] end u goes is level lacks = subst (λ (z : LinkOf). (last_slot s x.content p ≡ grown_as p (Some Full)) × (rs : List ℕ) × HasRunShort g lone rename t below e v u p [] z rs hand p) (sym goes) (
+      → (last_slot s x.content p ≡ grown_as p (Some Full)) × (rs : List ℕ) × HasRunShort g lot rename t below e v u p ps end rs hand p
+  lacks_right [] end u goes is level lacks = subst (λ (z : LinkOf). (last_slot s x.content p ≡ grown_as p (Some Full)) × (rs : List ℕ) × HasRunShort g lot rename t below e v u p [] z rs hand p) (sym goes) (
     last_first s x.content p level ∙ (grown_not (claim s 0 p) r.none ∙ ap (λ (q : Plain). grown_as q (Some Full)) r.same),
     [],
     record { readied = r.readied; claim = r.claim; tab = r.tab ∙ ap (λ z. searched_to z r.claim) at; others = r.others; stays = stays_none p e.anchor },
@@ -134,8 +139,8 @@ module _ (g : Ground (List ℕ)) (lone : IsLone g) (rename : ℕ → ℕ) (t : �
       at : tab_at v t ≡ W [] NotWritten []
       at = is ∙ ap (λ (z : LinkOf). W [] z (slots_of_link z)) goes
 
-      r : HasRunOut g lone rename t 0 v u p hand
-      r = runs_out g lone rename t v p hand h below (writer_as g e [] NotWritten []) at (λ z. refl) 0 refl u lacks.out
+      r : HasRunOut g lot rename t 0 e.anchor v u p hand
+      r = runs_out g lot rename t e.anchor v p hand h below (writer_as g e [] NotWritten []) at (λ z. refl) 0 refl u lacks.out
   lacks_right (y ∷ ys) end u goes is level lacks = absurd (some_none (ap reserved_first (sym (is ∙ ap (λ (z : LinkOf). W (y ∷ ys) z (slots_of_link z)) goes.1)) ∙ lacks.none))
 
 -- what a tab says that closed an entry, by whether this was doomed
@@ -152,32 +157,32 @@ same_doom true false n h e = absurd (let k = h.0 refl in omega arith)
 same_doom false true n h e = h.1 e
 same_doom false false n h e = refl
 
-module _ {C O : Type 0} (tells : Bool) (state : C → CellState) (offers : O → Offers) (st : Store C O) (lone : IsLone (basis tells state offers st)) (rename : ℕ → ℕ) (t : ℕ) where
+module _ {C O : Type 0} (tells : Bool) (state : C → CellState) (offers : O → Offers) (st : Store C O) (lot : Lot) (rename : ℕ → ℕ) (t : ℕ) where
   abbrev g : Ground (List ℕ)
   g = basis tells state offers st
 
   abbrev room : ℕ
   room = room_of g.slot
 
-  module _ (pass : Pass C) (p : Plain) (e : Writing_) (x : Entry) (ready : IsReadied g lone rename t (view pass) p pass.hand) (h : Grows tells state offers st lone rename t pass p e x)
+  module _ (pass : Pass C) (p : Plain) (e : Writing_) (x : Entry) (ready : IsReadied g lot rename t e.anchor (view pass) p pass.hand) (ours : lot.anchors e.anchor ≡ true) (h : Grows tells state offers st lot rename t pass p e x)
       (all : e.taken ≡ length (body_in g e)) (plain_is : plain_tab p t ≡ plain.Writing e.anchor) where
     abbrev ps : List ℕ
     ps = h.writes.published
 
     lt : e.anchor < g.setting.anchors
-    lt = writer_there tells state offers st lone rename t pass e h.writes
+    lt = writer_there tells state offers st lot rename t pass e h.writes
 
     level : published room x.content ≡ length ps
-    level = level_here tells state offers st lone rename t pass p e x ready h
+    level = level_here tells state offers st lot rename t pass p e x ready ours h
 
     entry : ShowsEntry g (view pass) e.anchor (place_at p e.anchor).version x
-    entry = entry_shown g rename (view pass) p e.anchor (ready.knows.each e.anchor lt refl) x h.there
+    entry = entry_shown g rename (view pass) p e.anchor (ready.knows.each e.anchor lt ours) x h.there
 
     from_origin : g.setting.slots ≤ x.offer
     from_origin = let k = h.writes.rests.from in let o = h.offer_is in omega arith
 
     whole_content : x.content ≡ meta_size x.url + length x.body
-    whole_content = let c = content_is tells state offers st lone rename t pass p e x ready h in let b = ap length (body_is tells state offers st lone rename t pass p e x ready h) in let a = all in omega arith
+    whole_content = let c = content_is tells state offers st lot rename t pass p e x ready ours h in let b = ap length (body_is tells state offers st lot rename t pass p e x ready ours h) in let a = all in omega arith
 
     size_is : length (content (cut_of g x.offer 0 0)) ≡ x.content
     size_is = length-append (meta_bytes (key_of (url_of g x.offer)) (url_of g x.offer)) (g.offers.body (x.offer - g.setting.slots))
@@ -210,7 +215,7 @@ module _ {C O : Type 0} (tells : Bool) (state : C → CellState) (offers : O →
       pub slot : last_slot (setting_of g) x.content p ≡ grown_as store None
       pub tabs : store.tabs ≡ p.tabs
       pub hand_is : hand_in g.setting.anchors q.hand ≡ store.hand
-      pub knows : Knows g rename (view q) (close_writer Whole t e.anchor store) no_guests
+      pub knows : KnowsLot g rename lot (view q) (close_writer Whole t e.anchor store) no_guests
       pub free : tab_at (view q) t ≡ Free
       pub answered : answer_to_ended ended ≡ renamed rename (finish t e.anchor store).answer
 
@@ -220,7 +225,7 @@ module _ {C O : Type 0} (tells : Bool) (state : C → CellState) (offers : O →
       slot = sr.1;
       tabs = hg.stays.tabs;
       hand_is = hg.readied.hand_is;
-      knows = ended_right g lone rename t below Whole from stage.Closed f.linked f.closed (view q) store x y e.anchor f.word refl refl le po.pass (stands_before f.closes) po.tab hg.readied.eight plain_after there but word shown f.closes f.parted;
+      knows = ended_right g rename lot t below Whole from stage.Closed f.linked f.closed (view q) store x y e.anchor f.word own_linked ours refl refl le po.pass (stands_before f.closes) po.tab hg.readied.eight plain_after there but word shown f.closes f.parted;
       free = f.parted.free;
       answered = told_ended rename ended (place_at store e.anchor).version (place_at store e.anchor).doom (f.version ∙ (h.version_is ∙ ap (λ (o : PlaceOf). rename o.version) (sym hg.stays.place)))
           (same_doom (is_doomed ended) (place_at store e.anchor).doom (doom_of (epoch_in (left_by f.linked (Raise t stage.Closed) f.word))) f.doomed doom_is);
@@ -229,17 +234,20 @@ module _ {C O : Type 0} (tells : Bool) (state : C → CellState) (offers : O →
         below : t < inner
         below = h.writes.rests.below
 
-        sr : HasLast g lone rename t below e (view pass) p pass.hand ready x h.there h.grows f.wrote.reserved ps h.writes.end f.wrote.slot q.hand
-        sr = slot_right g lone rename t below e (view pass) p pass.hand ready x h.there h.grows ps h.writes.end f.wrote.slot q.hand f.wrote.reserved h.writes.rests.goes_on h.writes.rests.is level f.wrote.for_piece
+        sr : HasLast g lot rename t below e (view pass) p pass.hand ready x h.there h.grows f.wrote.reserved ps h.writes.end f.wrote.slot q.hand
+        sr = slot_right g lot rename t below e (view pass) p pass.hand ready x h.there h.grows ps h.writes.end f.wrote.slot q.hand f.wrote.reserved h.writes.rests.goes_on h.writes.rests.is level f.wrote.for_piece
 
         store : Plain
         store = sr.0
 
-        hg : HasGrown g lone rename t below e (view pass) f.wrote.reserved p ps h.writes.end (f.wrote.slot ∷ []) q.hand store
+        hg : HasGrown g lot rename t below e (view pass) f.wrote.reserved p ps h.writes.end (f.wrote.slot ∷ []) q.hand store
         hg = sr.2
 
-        po : PieceOut g lone rename t below e f.wrote.reserved f.linked ps f.wrote.slot None []
-        po = piece_out g lone rename t below e f.wrote.reserved f.linked ps h.writes.end f.wrote.slot [] e.is_durable None hg.readied.pass hg.readied.inner_free hg.tab f.wrote.wrote
+        po : PieceOut g lot rename t below e f.wrote.reserved f.linked ps f.wrote.slot None []
+        po = piece_out g lot rename t below e f.wrote.reserved f.linked ps h.writes.end f.wrote.slot [] e.is_durable None hg.readied.pass hg.readied.inner_free hg.tab f.wrote.wrote
+
+        own_linked : OwnsLot g lot f.linked.pass
+        own_linked = lot_stays g lot f.wrote.reserved f.linked po.number hg.readied.owns
 
         y : Writer (List ℕ)
         y = linked_as g t below e ps f.wrote.slot LastLink []
@@ -257,13 +265,13 @@ module _ {C O : Type 0} (tells : Bool) (state : C → CellState) (offers : O →
         le = let k = growing_stage room x.content in omega arith
 
         before : ShowsAt g rename f.wrote.reserved store 0 e.anchor
-        before = hg.readied.knows.each e.anchor lt refl
+        before = hg.readied.knows.each e.anchor lt ours
 
         same : SameBut g f.wrote.reserved f.linked (Touched e.anchor f.wrote.slot)
         same = same_weaker g f.wrote.reserved f.linked (Linking e.anchor f.wrote.slot) (Touched e.anchor f.wrote.slot) (touched_linking e.anchor f.wrote.slot) po.same
 
-        but : KnowsBut g rename f.linked store no_guests e.anchor
-        but = touched_but g rename lone f.wrote.reserved f.linked t f.wrote.slot (writer_as g e ps h.writes.end (f.wrote.slot ∷ [])) store store hg.readied.stands hg.readied.pass below hg.tab (0, omega arith, refl) same
+        but : KnowsLotBut g rename lot f.linked store no_guests e.anchor
+        but = touched_but g rename f.wrote.reserved f.linked t f.wrote.slot (writer_as g e ps h.writes.end (f.wrote.slot ∷ [])) store store hg.readied.owns hg.readied.stands hg.readied.pass below hg.tab (0, omega arith, refl) same
             (same_else store e.anchor) hg.readied.eight (knows_but g rename f.wrote.reserved store no_guests e.anchor hg.readied.knows)
 
         word : has g f.linked (Anchor e.anchor) ≡ staged rename store e.anchor from
@@ -273,13 +281,13 @@ module _ {C O : Type 0} (tells : Bool) (state : C → CellState) (offers : O →
         shown : ShowsEntry g f.linked e.anchor (place_at store e.anchor).version (record x { life = Whole })
         shown = let n = touched_names g f.wrote.reserved f.linked e.anchor f.wrote.slot x lt same (entry_shown g rename f.wrote.reserved store e.anchor before x there).names in record {
           names = record { key0 = n.key0; key1 = n.key1; offer = n.offer };
-          chain = chain_of_tab g f.linked t y (record x { life = Whole }) (owns_lone g lone f.linked.pass y.anchor) (stands_before f.closes) po.pass below po.tab refl (length_push ps f.wrote.slot ∙ (let l = level in omega arith)) refl;
+          chain = chain_of_tab g f.linked t y (record x { life = Whole }) (own_linked e.anchor lt ours) (stands_before f.closes) po.pass below po.tab refl (length_push ps f.wrote.slot ∙ (let l = level in omega arith)) refl;
           offer = whole_offer;
           drawn = (entry_shown g rename f.wrote.reserved store e.anchor before x there).drawn;
         }
 
         left : left_by f.linked (Raise t stage.Closed) f.word ≡ staged rename store e.anchor stage.Closed
-        left = (raised_so g rename t below from stage.Closed f.linked f.closed store y e.anchor f.word (mine_lone g lone f.linked (Anchor y.anchor)) le refl po.tab hg.readied.eight word f.closes).1
+        left = (raised_so g rename t below from stage.Closed f.linked f.closed store y e.anchor f.word ((own_linked e.anchor lt ours).words f.linked (Anchor e.anchor) refl refl) le refl po.tab hg.readied.eight word f.closes).1
 
         doom_is : doom_of (epoch_in (left_by f.linked (Raise t stage.Closed) f.word)) ≡ doom_number (place_at store e.anchor).doom
         doom_is = ap (λ (n : ℕ). doom_of (epoch_in n)) left ∙ doom_counted (renamed_word rename record { epoch = record { version = (place_at store e.anchor).version; doom = (place_at store e.anchor).doom; stage = stage.Closed }; readers = readers store e.anchor })

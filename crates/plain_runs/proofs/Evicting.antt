@@ -1,9 +1,10 @@
 -- The entry that is evicted for a slot is the victim of the plain store.
-use Rattle.std.proofs.Common.{List, Some, ap, arith, refl, subst, sym, true, false, ◌<◌, ◌∙◌, ◌≡◌, ℕ}
+use Rattle.std.proofs.Common.{Contains, List, Some, ap, arith, inl, inr, refl, subst, sym, true, false, ◌<◌, ◌∙◌, ◌≡◌, ◌⊎◌, ℕ}
 use Rattle.core_model.specs.Layout.{Setting}
 use Rattle.core_model.specs.Tabs.{inner}
 use Rattle.core_model.specs.declared.tab.Freer.{Freer}
-use Rattle.core_model.specs.declared.view.Place.TheVariants.{Anchor}
+use Rattle.core_model.specs.declared.view.Place.{Place}
+use Rattle.core_model.specs.declared.view.Place.TheVariants.{Anchor, Link}
 use Rattle.core_model.specs.declared.view.View.{View}
 use Rattle.lock_word.specs.Words.{is_idle, raised}
 use Rattle.lock_word.proofs.Testing.{readers_of-idle}
@@ -12,8 +13,8 @@ use Rattle.plain_laws.proofs.Evicting.{idle_whole}
 use Rattle.plain_runs.specs.Words.{IsLone, Knows, no_guests, setting_of, whole_lot}
 use Rattle.plain_runs.proofs.Frames.{knows_same}
 use Rattle.plain_runs.proofs.Frames as frame
-use Rattle.plain_runs.proofs.Freeing.{EvictedAt, FewReaders, KnowsBut, evict_leaves, gave_but, gave_right, vacated_at}
-use Rattle.plain_runs.proofs.OwnAnchors.{mine_lone}
+use Rattle.plain_runs.proofs.Freeing.{EvictedAt, FewReaders, IsGivenBack, KnowsBut, evict_leaves, gave_but, gave_right, given_place, vacated_at}
+use Rattle.plain_runs.proofs.OwnAnchors.{lot_lone, mine_lone}
 use Rattle.plain_runs.proofs.PlainWords.{idle_there, readers_there}
 use Rattle.plain_runs.proofs.Rounds.{onward_inside, victim_is}
 use Rattle.plain_model.specs.declared.store.Plain.{Plain}
@@ -64,15 +65,23 @@ module _ (g : Ground (List ℕ)) (lone : IsLone g) (rename : ℕ → ℕ) (m : V
   anchor_is : e.kept.freer.anchor ≡ x
   anchor_is = ap Freer.anchor e.chain
 
+  given : (q : Place) → Contains e.kept.added.changed q → IsGivenBack e.kept.freer q
+  given q c = of_one (e.kept.changed q c)
+    where
+      of_one : ((j : ℕ) × (q ≡ Link j) × Contains e.kept.freer.rest j) ⊎ (q ≡ Anchor e.kept.freer.anchor) → IsGivenBack e.kept.freer q
+      of_one (inl y) = inl y
+      of_one (inr y) = inr (inr y)
+
   others : KnowsBut g rename w p no_guests x
   others = subst (KnowsBut g rename w p no_guests) anchor_is
-      (gave_but g rename lone e.won w e.kept.freer e.kept.added p no_guests few e.victim.stands e.kept.was e.kept.went e.kept.changed (subst (KnowsBut g rename e.won p no_guests) (sym anchor_is) at_freeing.others))
+      (gave_but g rename e.won w e.kept.freer (Contains e.kept.added.changed) p no_guests few (lot_lone g lone whole_lot e.won.pass) e.victim.stands at_freeing.nine e.kept.was
+      (frame.went_same g lone e.won w e.kept.added e.kept.went (λ q c. given_place g e.won e.kept.freer e.victim.stands at_freeing.nine e.kept.was q (given q c))) given (subst (KnowsBut g rename e.won p no_guests) (sym anchor_is) at_freeing.others))
 
   a_stage_on : has g w (Anchor x) ≡ raised (has g e.won (Anchor x)) 1
   a_stage_on = e.left ∙ e.kept.from (subst (λ z. z < k.anchors) (sym anchor_is) x_inside) (mine_lone g lone e.won (Anchor e.kept.freer.anchor)) ∙ ap (λ z. raised (has g e.won (Anchor z)) 1) anchor_is
 
   knows_vacated : Knows g rename w (vacated_at x p) no_guests
-  knows_vacated = gave_right g rename lone w p no_guests x (has g e.won (Anchor x)) others at_freeing.drawn at_freeing.word a_stage_on
+  knows_vacated = gave_right g rename w p no_guests x (has g e.won (Anchor x)) others at_freeing.drawn at_freeing.word a_stage_on
 
   -- Without it the words are the plain store's.
   pub knows_without : Knows g rename w (evicted (setting_of g) x p) no_guests

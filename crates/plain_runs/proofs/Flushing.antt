@@ -41,14 +41,15 @@ use Rattle.slice_chain.specs.Links.{Published, next_link}
 use Rattle.slice_chain.specs.Writes.{chose}
 use Rattle.slice_chain.specs.Victims.{hand_in}
 use Rattle.store_rule.specs.Ground.{Ground}
-use Rattle.plain_runs.specs.Words.{HasChain, HasNames, IsLone, IsOfOffer, Knows, ShowsAt, ShowsEntry, ShowsEntryIf, no_guests, setting_of}
+use Rattle.store_serve.proofs.Slots.{published as publishing, wrote_slot}
+use Rattle.plain_runs.specs.Words.{HasChain, HasNames, IsOfOffer, KnowsLot, Lot, ShowsAt, ShowsEntry, ShowsEntryIf, no_guests, setting_of}
 use Rattle.plain_runs.proofs.Frames.{SameBut, same_none, same_on, same_weaker}
-use Rattle.plain_runs.proofs.Freeing.{KnowsBut, but_moved, knows_all, knows_but, put_else, same_else}
+use Rattle.plain_runs.proofs.Freeing.{KnowsLotBut, but_moved, knows_all, knows_but, put_else, same_else}
 use Rattle.plain_runs.proofs.PlainWords.{readers_fit, stage_counted}
-use Rattle.plain_runs.proofs.OwnAnchors.{mine_lone}
+use Rattle.plain_runs.proofs.OwnAnchors.{OwnsLot, lot_stays, pass_stays}
 use Rattle.plain_runs.proofs.Published.{Linking, Touched, anchor_there, no_anchor, published_same, raise_left, raise_same, touched_but, touched_either, touched_linking, touched_names, wrote_same}
 use Rattle.plain_runs.proofs.Publishing.{HasGrown, both_right}
-use Rattle.plain_runs.proofs.Reserving.{ClaimStays, IsReadied}
+use Rattle.plain_runs.proofs.Reserving.{ClaimStays, IsReadied, Supply, supply_on}
 
 -- The word of the anchor with this stage, and with the version, the doom and the readers of the plain store.
 abbrev pub staged : (ℕ → ℕ) → Plain → ℕ → Stage → ℕ
@@ -93,8 +94,8 @@ module _ (g : Ground (List ℕ)) (rename : ℕ → ℕ) where
   s = setting_of g
 
   -- The growing entry at the anchor has so many bytes now, and all else is known.
-  pub knows_grown : (v : View (List ℕ)) (p : Plain) (a c : ℕ) (x : Entry) (st : Stage) → KnowsBut g rename v p no_guests a → entry_at p a ≡ Some x → x.life ≡ Growing → has g v (Anchor a) ≡ staged rename p a st
-      → stage_of_entry (room_of g.slot) Growing c ≡ st → HasNames g v a x → HasChain g v a (record x { content = c }) → IsOfOffer g a (record x { content = c }) → 0 < (place_at p a).version → Knows g rename v (resize a c p) no_guests
+  pub knows_grown : {lot : Lot} (v : View (List ℕ)) (p : Plain) (a c : ℕ) (x : Entry) (st : Stage) → KnowsLotBut g rename lot v p no_guests a → entry_at p a ≡ Some x → x.life ≡ Growing → has g v (Anchor a) ≡ staged rename p a st
+      → stage_of_entry (room_of g.slot) Growing c ≡ st → HasNames g v a x → HasChain g v a (record x { content = c }) → IsOfOffer g a (record x { content = c }) → 0 < (place_at p a).version → KnowsLot g rename lot v (resize a c p) no_guests
   knows_grown v p a c x st but there grows word is names chain offer drawn = knows_all g rename v (resize a c p) no_guests a
       (but_moved g rename v v (λ q. ⊥) p (resize a c p) no_guests a (same_none g v (λ q. ⊥)) (put_else p a (resized c (place_at p a))) (λ none. none)
       (λ b lt own ne. record { word = λ none. none; sides = λ side none. none; links = λ e k chain j m none. none }) but)
@@ -122,7 +123,7 @@ module _ (g : Ground (List ℕ)) (rename : ℕ → ℕ) where
 acts : {A : Type 0} {x y : A} → Some x ≡ Some y → y ≡ x
 acts e = cc
 
-module _ (g : Ground (List ℕ)) (lone : IsLone g) (rename : ℕ → ℕ) (t : ℕ) (below : t < inner) (e : Writing_) where
+module _ (g : Ground (List ℕ)) (lot : Lot) (rename : ℕ → ℕ) (t : ℕ) (below : t < inner) (e : Writing_) where
   others_set : (v u : View (List ℕ)) (x : Tab (List ℕ)) → u.tabs ≡ with_tab v t x → Others t v u
   others_set v u x tabs j ne far = ap (λ (xs : List (Tab (List ℕ))). get_or xs j Free) tabs ∙ get_or-set_other v.tabs t j x Free ne
 
@@ -132,6 +133,7 @@ module _ (g : Ground (List ℕ)) (lone : IsLone g) (rename : ℕ → ℕ) (t : �
     pub tab : tab_at w t ≡ Writing (linked_as g t below e ps slot (next_link next) more)
     pub inner_free : InnerIsFree w
     pub pass : IsPass w
+    pub number : w.pass ≡ u.pass
     pub others : Others t u w
 
   pub piece_out : (u w : View (List ℕ)) (ps : List ℕ) (end : LinkOf) (slot : ℕ) (more : List ℕ) (durable : Bool) (next : Option ℕ) → IsPass u → InnerIsFree u → tab_at u t ≡ Writing (writer_as g e ps end (slot ∷ more))
@@ -143,6 +145,7 @@ module _ (g : Ground (List ℕ)) (lone : IsLone g) (rename : ℕ → ℕ) (t : �
     tab = now.0;
     inner_free = now.1;
     pass = of_published h.publishes;
+    number = (publishing g t slot next h.written w h.publishes).pass ∙ (wrote_slot g t h.wrote).pass;
     others = others_go_on u h.written w t (others_set u h.written (Writing (chose h.wrote.writer h.wrote.slot durable h.wrote.written h.wrote.settled)) h.wrote.tabs) (publish_others h.publishes);
   }
     where
@@ -173,15 +176,18 @@ module _ (g : Ground (List ℕ)) (lone : IsLone g) (rename : ℕ → ℕ) (t : �
           (others_stay g first.middle w (StoreSide t Start (slot + 1)) first.found t first.started (λ z k. acts k))
       publish_others (inr again) = others_stay g h.written w (Publish t slot (next_link next)) 0 t again.linked (λ z k. acts k)
 
-  module _ (v : View (List ℕ)) (p : Plain) (hand : ℕ) (h : IsReadied g lone rename t v p hand) (x : Entry) (there : entry_at p e.anchor ≡ Some x) (grows : x.life ≡ Growing)
-      (filled : ℕ) (content : x.content ≡ filled * room_of g.slot) (small : filled < limit (setting_of g)) where
+  module _ (v : View (List ℕ)) (p : Plain) (hand : ℕ) (h : IsReadied g lot rename t e.anchor v p hand) (x : Entry) (there : entry_at p e.anchor ≡ Some x) (grows : x.life ≡ Growing)
+      (filled : ℕ) (content : x.content ≡ filled * room_of g.slot) (small : filled < limit (setting_of g)) (ours : lot.anchors e.anchor ≡ true)
+      (behind : x.content < meta_size x.url + length x.body) where
     -- A full slot was published, in the plain store too, and its entry has the stage of one of which a slot is published.
     pub record HasFlushed (w : View (List ℕ)) (hand_after : ℕ) : Type 0 where
       pub store : Plain
       pub grown : publish (setting_of g) e.anchor filled p ≡ grown_as store None
       pub stays : ClaimStays p store e.anchor
       pub hand_is : hand_in g.setting.anchors hand_after ≡ store.hand
-      pub but : KnowsBut g rename w store no_guests e.anchor
+      pub but : KnowsLotBut g rename lot w store no_guests e.anchor
+      pub owns : OwnsLot g lot w.pass
+      pub supply : Supply g lot t e.anchor w store
       pub word : has g w (Anchor e.anchor) ≡ staged rename store e.anchor stage.Appending
       pub shown : ShowsEntry g v e.anchor (place_at p e.anchor).version x
       pub names : HasNames g w e.anchor x
@@ -194,13 +200,13 @@ module _ (g : Ground (List ℕ)) (lone : IsLone g) (rename : ℕ → ℕ) (t : �
         u : View (List ℕ)
         u = f.reserved
 
-        both : (q : Plain) × (publish (setting_of g) e.anchor filled p ≡ grown_as q None) × HasGrown g lone rename t below e v u p ps end (f.slot ∷ f.next ∷ []) hand_after q
-        both = both_right g lone rename t below e v p hand h x there grows filled content small ps end f.slot f.next hand_after u goes is many f.both
+        both : (q : Plain) × (publish (setting_of g) e.anchor filled p ≡ grown_as q None) × HasGrown g lot rename t below e v u p ps end (f.slot ∷ f.next ∷ []) hand_after q
+        both = both_right g lot rename t below e v p hand h x there grows filled content small ps end f.slot f.next hand_after u behind goes is many f.both
 
         q : Plain
         q = both.0
 
-        hg : HasGrown g lone rename t below e v u p ps end (f.slot ∷ f.next ∷ []) hand_after q
+        hg : HasGrown g lot rename t below e v u p ps end (f.slot ∷ f.next ∷ []) hand_after q
         hg = both.2
 
         po : PieceOut u f.linked ps f.slot (Some f.next) (f.next ∷ [])
@@ -213,7 +219,7 @@ module _ (g : Ground (List ℕ)) (lone : IsLone g) (rename : ℕ → ℕ) (t : �
         lt = anchor_there g u t (writer_as g e ps end (f.slot ∷ f.next ∷ [])) hg.readied.stands hg.readied.pass below hg.tab
 
         shown : ShowsAt g rename u q 0 e.anchor
-        shown = hg.readied.knows.each e.anchor lt refl
+        shown = hg.readied.knows.each e.anchor lt ours
 
         here : (st : Stage) → stage_of_entry (room_of g.slot) Growing x.content ≡ st → has g f.linked (Anchor e.anchor) ≡ staged rename q e.anchor st
         here st k = po.same.same (Anchor e.anchor) tt lt (no_anchor e.anchor f.slot e.anchor)
@@ -222,22 +228,27 @@ module _ (g : Ground (List ℕ)) (lone : IsLone g) (rename : ℕ → ℕ) (t : �
         linking : SameBut g u f.linked (Touched e.anchor f.slot)
         linking = same_weaker g u f.linked (Linking e.anchor f.slot) (Touched e.anchor f.slot) (touched_linking e.anchor f.slot) po.same
 
-        done : SameBut g u w (Touched e.anchor f.slot) → has g w (Anchor e.anchor) ≡ staged rename q e.anchor stage.Appending → Others t u w → HasFlushed w hand_after
-        done same word others = record {
+        own_linked : OwnsLot g lot f.linked.pass
+        own_linked = lot_stays g lot u f.linked po.number hg.readied.owns
+
+        done : SameBut g u w (Touched e.anchor f.slot) → w.pass ≡ f.linked.pass → has g w (Anchor e.anchor) ≡ staged rename q e.anchor stage.Appending → Others t u w → HasFlushed w hand_after
+        done same number word others = record {
           store = q;
           grown = both.1;
           stays = hg.stays;
           hand_is = hg.readied.hand_is;
-          but = touched_but g rename lone u w t f.slot (writer_as g e ps end (f.slot ∷ f.next ∷ [])) q q hg.readied.stands hg.readied.pass below hg.tab (0, omega arith, refl) same (same_else q e.anchor) hg.readied.eight
+          but = touched_but g rename u w t f.slot (writer_as g e ps end (f.slot ∷ f.next ∷ [])) q q hg.readied.owns hg.readied.stands hg.readied.pass below hg.tab (0, omega arith, refl) same (same_else q e.anchor) hg.readied.eight
               (knows_but g rename u q no_guests e.anchor hg.readied.knows);
+          owns = lot_stays g lot f.linked w number own_linked;
+          supply = supply_on g lot t e.anchor u w q others hg.readied.supply;
           word = word;
-          shown = entry_shown g rename v p e.anchor (h.knows.each e.anchor lt refl) x there;
+          shown = entry_shown g rename v p e.anchor (h.knows.each e.anchor lt ours) x there;
           names = touched_names g u w e.anchor f.slot x lt same (entry_shown g rename u q e.anchor shown x there_q).names;
           others = others_go_on v u w t hg.others others;
         }
 
         of_raised : RaisedFirst g t v f.linked w ⊎ RaisedBefore g t v f.linked w → HasFlushed w hand_after
-        of_raised (inr before) = done (subst (λ (z : View (List ℕ)). SameBut g u z (Touched e.anchor f.slot)) (sym before.same) linking)
+        of_raised (inr before) = done (subst (λ (z : View (List ℕ)). SameBut g u z (Touched e.anchor f.slot)) (sym before.same) linking) (ap View.pass before.same)
             (ap (λ (z : View (List ℕ)). has g z (Anchor e.anchor)) before.same ∙ here stage.Appending (let ne = ne_eqb (published (room_of g.slot) x.content) 0 more in rw ne refl))
             (subst (Others t u) (sym before.same) po.others)
           where
@@ -251,6 +262,7 @@ module _ (g : Ground (List ℕ)) (lone : IsLone g) (rename : ℕ → ℕ) (t : �
             (same_weaker g u w (λ r. Touched e.anchor f.slot r ⊎ Touched e.anchor f.slot r) (Touched e.anchor f.slot) (touched_either e.anchor f.slot)
             (same_on g u f.linked w (Touched e.anchor f.slot) (Touched e.anchor f.slot) linking
             (raise_same g f.linked w t first.word f.slot stage.Appending (linked_as g t below e ps f.slot (Next f.next) (f.next ∷ [])) po.pass below po.tab first.raises)))
+            (pass_stays g f.linked w (Raise t stage.Appending) first.word first.raises)
             (left.1 ∙ (ap (λ (z : ℕ). raised z (2 - stage_in (epoch_in z))) found ∙ (ap (λ (k : ℕ). raised (staged rename q e.anchor stage.Taken) (2 - k)) one ∙ staged_raised rename q e.anchor stage.Taken stage.Appending (omega arith))))
             (others_go_on u f.linked w t po.others (others_stay g f.linked w (Raise t stage.Appending) first.word t first.raises (λ z k. acts k)))
           where
@@ -262,7 +274,7 @@ module _ (g : Ground (List ℕ)) (lone : IsLone g) (rename : ℕ → ℕ) (t : �
 
             left : (first.word ≡ has g f.linked (Anchor e.anchor)) × (has g w (Anchor e.anchor) ≡ raised first.word (2 - stage_in (epoch_in first.word)))
                 × (left_by f.linked (Raise t stage.Appending) first.word ≡ raised first.word (2 - stage_in (epoch_in first.word)))
-            left = raise_left g f.linked w t first.word stage.Appending (linked_as g t below e ps f.slot (Next f.next) (f.next ∷ [])) (mine_lone g lone f.linked (Anchor e.anchor)) po.tab first.raises
+            left = raise_left g f.linked w t first.word stage.Appending (linked_as g t below e ps f.slot (Next f.next) (f.next ∷ [])) ((own_linked e.anchor lt ours).words f.linked (Anchor e.anchor) refl refl) po.tab first.raises
 
             found : first.word ≡ staged rename q e.anchor stage.Taken
             found = left.0 ∙ here stage.Taken (let z = eq-eqb (published (room_of g.slot) x.content) 0 level0 in rw z refl)

@@ -65,6 +65,10 @@ module _ (g : Ground (List ℕ)) where
   pub went_same : IsLone g → (v w : View (List ℕ)) (d : Added) → Went g v d w → ((q : Place) → Contains d.changed q → IsPlace g.setting q) → SameBut v w (Contains d.changed)
   went_same lone v w d went there = record { same = λ q known here ne. went.steady q (known_followed q known) here (mine_lone g lone v q) (λ r c e. ne (subst (Contains d.changed) (apart g.setting r q (there r c) here e) c)) }
 
+  -- of steps that touched no other places of the table, also where others change words
+  pub went_touched : (v w : View (List ℕ)) (d : Added) → Went g v d w → ((q : Place) → Contains d.touched q → IsPlace g.setting q) → SameBut v w (Contains d.touched)
+  went_touched v w d went there = record { same = λ q known here ne. went.apart q (known_followed q known) here (λ r c e. ne (subst (Contains d.touched) (apart g.setting r q (there r c) here e) c)) }
+
   pub went_none : IsLone g → (v w : View (List ℕ)) (d : Added) → Went g v d w → d.changed ≡ [] → SameBut v w (λ q. ⊥)
   went_none lone v w d went none = record { same = λ q known here ne. went.steady q (known_followed q known) here (mine_lone g lone v q) (λ r c e. nothing_in r (subst (λ (z : List Place). Contains z r) none c)) }
     where

@@ -23,6 +23,7 @@ use Rattle.core_model.specs.Trails.{last_find}
 use Rattle.core_model.specs.declared.moves.Move.{Move}
 use Rattle.core_model.specs.declared.moves.Move.TheVariants.{Evict, Take}
 use Rattle.core_model.specs.declared.moves.Side.{Side}
+use Rattle.core_model.specs.declared.moves.Side.TheVariants.{Start}
 use Rattle.core_model.specs.declared.tab.Freer.{Freer}
 use Rattle.core_model.specs.declared.tab.Tab.{Tab}
 use Rattle.core_model.specs.declared.tab.Tab.TheVariants.{Free, Freeing, Writing}
@@ -50,10 +51,10 @@ use Rattle.core_alone.specs.Touched.{touched_by}
 use Rattle.store_rule.proofs.AddingUp.{has_left}
 use Rattle.store_rule.proofs.MyWords.{found_mine}
 use Rattle.slice_chain.specs.Freeing.{Freed}
-use Rattle.plain_runs.specs.Words.{HasChain, IsLone, Knows, KnowsLot, Lot, ShowsAt, whole_lot, ShowsEntryIf, setting_of}
-use Rattle.plain_runs.proofs.Frames.{LeavesAlone, SameBut, same_none, same_weaker, shows_elsewhere, step_same, went_same}
+use Rattle.plain_runs.specs.Words.{HasChain, KnowsLot, Lot, ShowsAt, whole_lot, ShowsEntryIf, setting_of}
+use Rattle.plain_runs.proofs.Frames.{LeavesAlone, SameBut, same_none, shows_elsewhere, step_same, went_touched}
 use Rattle.plain_runs.proofs.Chains.{not_resting, own_tab}
-use Rattle.plain_runs.proofs.OwnAnchors.{OwnsAnchor, mine_lone, own_chain, owns_lone}
+use Rattle.plain_runs.proofs.OwnAnchors.{OwnsAnchor, OwnsLot, own_chain}
 use Rattle.plain_runs.proofs.PlainWords.{stage_there}
 
 anchor_in : Place → ℕ
@@ -67,6 +68,14 @@ link_in q = 0
 same_anchor : (a b : ℕ) → Anchor a ≡ Anchor b → a ≡ b
 unfolding anchor_in
 same_anchor a b e = ap anchor_in e
+
+side_in : Place → ℕ
+side_in (Beside side a) = a
+side_in q = 0
+
+same_side : (side other : Side) (a b : ℕ) → Beside side a ≡ Beside other b → a ≡ b
+unfolding side_in
+same_side side other a b e = ap side_in e
 
 same_link : (a b : ℕ) → Link a ≡ Link b → a ≡ b
 unfolding link_in
@@ -184,23 +193,7 @@ chained_apart_rest : (g : Ground (List ℕ)) (rename : ℕ → ℕ) (v : View (L
 chained_apart_rest g rename v st pass p n b own few lt shown e there h f is j c d = apart_life g v st pass f is b (place_at p b).version own lt e h e.life refl
     (stage_there rename (setting_of g) p n b (word st.state b) (own.stands v st (Anchor b) refl pass refl lt ∙ shown.word) few ∙ ap (λ o. stage_number (stage_of (room_of g.slot) (place_at p b).version o)) there) j c d
 
-module _ (g : Ground (List ℕ)) (lone : IsLone g) where
-  -- a pass whose inner tab gives slots back has nine tabs
-  pub nine_tabs : (v : View (List ℕ)) (f : Freer (List ℕ)) → Stands g v → tab_at v inner ≡ Freeing f → IsPass v
-  nine_tabs v f st is = dite (ℕ_discrete (length v.tabs - 8) 0)
-      (λ short. absurd (none_there (get_or_past v.tabs 8 Free (omega arith)) is))
-      (λ long. let one = le_sum_at tabs_in st.state.views st.index v st.at in let all = st.rule.sound.anchors.shaped.tabs in exactly one all lone (omega arith))
-    where
-      none_there : {x : Tab (List ℕ)} → x ≡ Free → x ≡ Freeing f → ⊥
-      none_there {x} e h = let k : Free ≡ Freeing f = sym e ∙ h in cc
-
-      exactly : {x n p : ℕ} → x ≤ n → n ≡ 9 * p → p ≡ 1 → 8 < x → x ≡ 9
-      exactly one all p long = omega arith
-
-module _ (g : Ground (List ℕ)) (lone : IsLone g) (v : View (List ℕ)) (f : Freer (List ℕ)) (st : Stands g v) (is : tab_at v inner ≡ Freeing f) where
-  nine : IsPass v
-  nine = nine_tabs g lone v f st is
-
+module _ (g : Ground (List ℕ)) (v : View (List ℕ)) (f : Freer (List ℕ)) (st : Stands g v) (nine : IsPass v) (is : tab_at v inner ≡ Freeing f) where
   here : get_elem? v.tabs inner ≡ some (Freeing f)
   here = tab_there v inner (Freeing f) (let n = nine in omega arith) is
 
@@ -219,40 +212,44 @@ raised_word : (rename : ℕ → ℕ) (room : ℕ) (x : PlaceOf) (counted n : ℕ
     ≡ raised (word_number (renamed_word rename record { epoch = record { version = x.version; doom = x.doom; stage = stage.Freeing }; readers = counted }) + n) 1
 raised_word rename room x counted n some_version = let none = ne_eqb x.version 0 (λ e. absurd (omega arith)) in rw none (omega arith)
 
-module _ (g : Ground (List ℕ)) (rename : ℕ → ℕ) (lone : IsLone g) where
-  -- Where slots of a chain are given back, and the word of its anchor may have changed, other entries stay.
-  pub gave_but : {lot : Lot} (v w : View (List ℕ)) (f : Freer (List ℕ)) (d : Added) (p : Plain) (guests : ℕ → ℕ) → FewReaders p guests → Stands g v → tab_at v inner ≡ Freeing f → Went g v d w
-      → ((q : Place) → Contains d.changed q → ((slot : ℕ) × (q ≡ Link slot) × Contains f.rest slot) ⊎ (q ≡ Anchor f.anchor)) → KnowsLotBut g rename lot v p guests f.anchor → KnowsLotBut g rename lot w p guests f.anchor
-  gave_but {lot} v w f d p guests few st is went only h = but_moved g rename v w (Contains d.changed) p p guests f.anchor (went_same g lone v w d went there) (same_else p f.anchor) (λ c. no_counter (only Counter c))
-      (λ b lt mine ne. record { word = λ c. no_anchor b ne (only (Anchor b) c); sides = λ side c. no_side side b (only (Beside side b) c); links = λ e here chain j c k. no_link b lt mine ne e here chain j c (only (Link j) k) }) h
+-- a link of the chain that is given back, the word that tells where it starts, or the word of its anchor
+abbrev pub IsGivenBack : Freer (List ℕ) → Place → Type 0
+IsGivenBack f q = ((slot : ℕ) × (q ≡ Link slot) × Contains f.rest slot) ⊎ ((q ≡ Beside Start f.anchor) ⊎ (q ≡ Anchor f.anchor))
+
+module _ (g : Ground (List ℕ)) (v : View (List ℕ)) (f : Freer (List ℕ)) (st : Stands g v) (nine : IsPass v) (is : tab_at v inner ≡ Freeing f) where
+  pub given_place : (q : Place) → IsGivenBack f q → IsPlace g.setting q
+  given_place q (inl x) = subst (IsPlace g.setting) (sym x.1) (rest_inside g v f st nine is x.0 x.2)
+  given_place q (inr (inl e)) = subst (IsPlace g.setting) (sym e) (freer_inside g v f st nine is)
+  given_place q (inr (inr e)) = subst (IsPlace g.setting) (sym e) (freer_inside g v f st nine is)
+
+module _ (g : Ground (List ℕ)) (rename : ℕ → ℕ) where
+  -- Where slots of a chain are given back, and no more changed than that, other entries of a lot that is the pass's own stay.
+  pub gave_but : {lot : Lot} (v w : View (List ℕ)) (f : Freer (List ℕ)) (Changed : Place → Type 0) (p : Plain) (guests : ℕ → ℕ) → FewReaders p guests → OwnsLot g lot v.pass → Stands g v → IsPass v
+      → tab_at v inner ≡ Freeing f → SameBut g v w Changed → ((q : Place) → Changed q → IsGivenBack f q) → KnowsLotBut g rename lot v p guests f.anchor → KnowsLotBut g rename lot w p guests f.anchor
+  gave_but {lot} v w f Changed p guests few owns st nine is same only h = but_moved g rename v w Changed p p guests f.anchor same (same_else p f.anchor) (λ c. no_counter (only Counter c))
+      (λ b lt mine ne. record { word = λ c. no_anchor b ne (only (Anchor b) c); sides = λ side c. no_side side b ne (only (Beside side b) c); links = λ e here chain j c k. no_link b lt mine ne e here chain j c (only (Link j) k) }) h
     where
-      OneOf : Place → Type 0
-      OneOf q = ((slot : ℕ) × (q ≡ Link slot) × Contains f.rest slot) ⊎ (q ≡ Anchor f.anchor)
-
-      there : (q : Place) → Contains d.changed q → IsPlace g.setting q
-      there q c = of_one q (only q c)
-        where
-          of_one : (q : Place) → ((slot : ℕ) × (q ≡ Link slot) × Contains f.rest slot) ⊎ (q ≡ Anchor f.anchor) → IsPlace g.setting q
-          of_one q (inl x) = subst (IsPlace g.setting) (sym x.1) (rest_inside g lone v f st is x.0 x.2)
-          of_one q (inr e) = subst (IsPlace g.setting) (sym e) (freer_inside g lone v f st is)
-
-      no_counter : ((slot : ℕ) × (Counter ≡ Link slot) × Contains f.rest slot) ⊎ (Counter ≡ Anchor f.anchor) → ⊥
+      no_counter : IsGivenBack f Counter → ⊥
       no_counter (inl x) = let e = x.1 in cc
-      no_counter (inr e) = cc
+      no_counter (inr (inl e)) = cc
+      no_counter (inr (inr e)) = cc
 
-      no_anchor : (b : ℕ) → b ≢ f.anchor → ((slot : ℕ) × (Anchor b ≡ Link slot) × Contains f.rest slot) ⊎ (Anchor b ≡ Anchor f.anchor) → ⊥
+      no_anchor : (b : ℕ) → b ≢ f.anchor → IsGivenBack f (Anchor b) → ⊥
       no_anchor b ne (inl x) = let e = x.1 in cc
-      no_anchor b ne (inr e) = ne (same_anchor b f.anchor e)
+      no_anchor b ne (inr (inl e)) = cc
+      no_anchor b ne (inr (inr e)) = ne (same_anchor b f.anchor e)
 
-      no_side : (side : Side) (b : ℕ) → ((slot : ℕ) × (Beside side b ≡ Link slot) × Contains f.rest slot) ⊎ (Beside side b ≡ Anchor f.anchor) → ⊥
-      no_side side b (inl x) = let e = x.1 in cc
-      no_side side b (inr e) = cc
+      no_side : (side : Side) (b : ℕ) → b ≢ f.anchor → IsGivenBack f (Beside side b) → ⊥
+      no_side side b ne (inl x) = let e = x.1 in cc
+      no_side side b ne (inr (inl e)) = ne (same_side side Start b f.anchor e)
+      no_side side b ne (inr (inr e)) = cc
 
       no_link : (b : ℕ) → b < g.setting.anchors → lot.anchors b ≡ true → b ≢ f.anchor → (e : Entry) → entry_at p b ≡ Some e → (chain : HasChain g v b e) → (j : ℕ) → Contains (chain.slots ++ slots_of_link chain.end) j
-          → ((slot : ℕ) × (Link j ≡ Link slot) × Contains f.rest slot) ⊎ (Link j ≡ Anchor f.anchor) → ⊥
-      no_link b lt mine ne e here chain j c (inl x) = chained_apart_rest g rename v st (nine_tabs g lone v f st is) p (guests b) b (owns_lone g lone v.pass b) (few b) lt (h.each b lt mine ne) e here chain f is j c
+          → IsGivenBack f (Link j) → ⊥
+      no_link b lt mine ne e here chain j c (inl x) = chained_apart_rest g rename v st nine p (guests b) b (owns b lt mine) (few b) lt (h.each b lt mine ne) e here chain f is j c
           (subst (λ (z : ℕ). Contains f.rest z) (sym (same_link j x.0 x.1)) x.2)
-      no_link b lt mine ne e here chain j c (inr k) = cc
+      no_link b lt mine ne e here chain j c (inr (inl k)) = cc
+      no_link b lt mine ne e here chain j c (inr (inr k)) = cc
 
   -- The pass had an inner tab that gave back a chain: so its view is that of some state.
   freed_stands : (v w : View (List ℕ)) → Freed g v w → Stands g v × Stands g w
@@ -270,35 +267,29 @@ module _ (g : Ground (List ℕ)) (rename : ℕ → ℕ) (lone : IsLone g) where
           still {x} {y} e k is = let z : Free ≡ Freeing h.freer = sym e ∙ sym k ∙ is in cc
       of_went (inr s) = s
 
-  -- The anchor's word is a stage on from the one that the pass knew.
-  pub raised_from : (v w : View (List ℕ)) → (h : Freed g v w) → h.freer.is_freeing ≡ true → has g w (Anchor h.freer.anchor) ≡ raised (has g v (Anchor h.freer.anchor)) 1
-  raised_from v w h freeing = h.from freeing (freer_inside g lone v h.freer (freed_stands v w h).0 h.was) (mine_lone g lone v (Anchor h.freer.anchor))
+  module _ (v w : View (List ℕ)) (nine : IsPass v) (h : Freed g v w) where
+    freed_from : Stands g v
+    freed_from = (freed_stands v w h).0
 
-  -- Links of the chain changed, and the word of its anchor where that was at FREEING.
-  abbrev pub FreedAt : Freer (List ℕ) → Place → Type 0
-  FreedAt f q = ((slot : ℕ) × (q ≡ Link slot) × Contains f.rest slot) ⊎ ((f.is_freeing ≡ true) × (q ≡ Anchor f.anchor))
+    -- The anchor's word is a stage on from the one that the pass knew.
+    pub raised_from : h.freer.is_freeing ≡ true → Mine g v (Anchor h.freer.anchor) → has g w (Anchor h.freer.anchor) ≡ raised (has g v (Anchor h.freer.anchor)) 1
+    raised_from freeing mine = h.from freeing (freer_inside g v h.freer freed_from nine h.was) mine
 
-  pub freed_same : (v w : View (List ℕ)) → (h : Freed g v w) → SameBut g v w (FreedAt h.freer)
-  freed_same v w h = same_weaker g v w (Contains h.added.changed) (FreedAt h.freer) (λ q c. h.changed q c) (went_same g lone v w h.added h.went there)
-    where
-      st : Stands g v
-      st = (freed_stands v w h).0
+    given_by : (q : Place) → Contains h.added.touched q → IsGivenBack h.freer q
+    given_by q c = of_one (h.touched q c)
+      where
+        of_one : ((slot : ℕ) × (q ≡ Link slot) × Contains h.freer.rest slot) ⊎ ((q ≡ Beside Start h.freer.anchor) ⊎ ((h.freer.is_freeing ≡ true) × (q ≡ Anchor h.freer.anchor))) → IsGivenBack h.freer q
+        of_one (inl x) = inl x
+        of_one (inr (inl e)) = inr (inl e)
+        of_one (inr (inr x)) = inr (inr x.1)
 
-      placed : {q : Place} → FreedAt h.freer q → IsPlace g.setting q
-      placed (inl x) = subst (IsPlace g.setting) (sym x.1) (rest_inside g lone v h.freer st h.was x.0 x.2)
-      placed (inr x) = subst (IsPlace g.setting) (sym x.1) (freer_inside g lone v h.freer st h.was)
+    freed_same : SameBut g v w (Contains h.added.touched)
+    freed_same = went_touched g v w h.added h.went (λ q c. given_place g v h.freer freed_from nine h.was q (given_by q c))
 
-      there : (q : Place) → Contains h.added.changed q → IsPlace g.setting q
-      there q c = placed (h.changed q c)
-
-  -- Whatever becomes of the anchor, other entries stay where a chain was given back.
-  pub freed_but : {lot : Lot} (v w : View (List ℕ)) (p : Plain) (guests : ℕ → ℕ) (a : ℕ) → FewReaders p guests → (h : Freed g v w) → h.freer.anchor ≡ a → KnowsLotBut g rename lot v p guests a → KnowsLotBut g rename lot w p guests a
-  freed_but {lot} v w p guests a few h at but = subst (KnowsLotBut g rename lot w p guests) at
-      (gave_but v w h.freer h.added p guests few (freed_stands v w h).0 h.was h.went (λ q c. may_be (h.changed q c)) (subst (KnowsLotBut g rename lot v p guests) (sym at) but))
-    where
-      may_be : {q : Place} → FreedAt h.freer q → ((slot : ℕ) × (q ≡ Link slot) × Contains h.freer.rest slot) ⊎ (q ≡ Anchor h.freer.anchor)
-      may_be (inl x) = inl x
-      may_be (inr x) = inr x.1
+    -- Whatever becomes of the anchor, other entries of the lot stay where a chain was given back.
+    pub freed_but : {lot : Lot} (p : Plain) (guests : ℕ → ℕ) (a : ℕ) → FewReaders p guests → OwnsLot g lot v.pass → h.freer.anchor ≡ a → KnowsLotBut g rename lot v p guests a → KnowsLotBut g rename lot w p guests a
+    freed_but {lot} p guests a few owns at but = subst (KnowsLotBut g rename lot w p guests) at
+        (gave_but v w h.freer (Contains h.added.touched) p guests few owns freed_from nine h.was freed_same (λ q c. given_by q c) (subst (KnowsLotBut g rename lot v p guests) (sym at) but))
 
   -- the plain store changes at an anchor of which nothing is said
   pub but_put : {lot : Lot} (v : View (List ℕ)) (p : Plain) (guests : ℕ → ℕ) (a : ℕ) (x : PlaceOf) → KnowsLotBut g rename lot v p guests a → KnowsLotBut g rename lot v (put_at a x p) guests a
@@ -320,10 +311,10 @@ module _ (g : Ground (List ℕ)) (rename : ℕ → ℕ) (lone : IsLone g) where
           there : place_at (vacated_at a p) a ≡ vacated (place_at p a)
           there = get_or-set_same p.places a (vacated (place_at p a)) nothing (let n = but.many in omega arith)
 
-  pub freed_right : {lot : Lot} (v w : View (List ℕ)) (p : Plain) (guests : ℕ → ℕ) (a : ℕ) → FewReaders p guests → (h : Freed g v w) → h.freer.anchor ≡ a → h.freer.is_freeing ≡ true
+  pub freed_right : {lot : Lot} (v w : View (List ℕ)) → IsPass v → (p : Plain) (guests : ℕ → ℕ) (a : ℕ) → FewReaders p guests → OwnsLot g lot v.pass → Mine g v (Anchor a) → (h : Freed g v w) → h.freer.anchor ≡ a → h.freer.is_freeing ≡ true
       → KnowsLotBut g rename lot v p guests a → 0 < (place_at p a).version → has g v (Anchor a) ≡ word_number (renamed_word rename (freeing_word p a)) + guests a → KnowsLot g rename lot w (vacated_at a p) guests
-  freed_right v w p guests a few h at freeing but some_version was = gave_right w p guests a (has g v (Anchor a)) (freed_but v w p guests a few h at but) some_version was
-      (subst (λ (z : ℕ). has g w (Anchor z) ≡ raised (has g v (Anchor z)) 1) at (raised_from v w h freeing))
+  freed_right v w nine p guests a few owns mine h at freeing but some_version was = gave_right w p guests a (has g v (Anchor a)) (freed_but v w nine h p guests a few owns at but) some_version was
+      (subst (λ (z : ℕ). has g w (Anchor z) ≡ raised (has g v (Anchor z)) 1) at (raised_from v w nine h freeing (subst (λ (z : ℕ). Mine g v (Anchor z)) (sym at) mine)))
 
 -- the word that an eviction leaves
 low_stage : (room version : ℕ) (e : Entry) (life : Life) → e.life ≡ life → stage_number (stage_of room version (Some e)) ≤ 5
@@ -351,16 +342,16 @@ module _ (g : Ground (List ℕ)) where
   evict_freer v u t a n st won = ap (λ (z : View (List ℕ)). tab_at z inner) st.leaves ∙ (let z = eq-eqb n (last_find a v.trail) won in rw z refl)
       ∙ get_or-set_same (set v.tabs t Free) inner (Freeing (freer_of a true n (chain_of st.state a))) Free (let n = st.may.pass in let m = length-set v.tabs t Free in omega arith)
 
-  -- and so does that of an idle one whose anchor is taken
-  pub take_freer : (v u : View (List ℕ)) (t a version n : ℕ) → (st : Steps g v (Take t a version) n u) → n ≡ last_find a v.trail → is_idle n ≡ true → tab_at u inner ≡ Freeing (freer_of a false n (chain_of st.state a))
-  take_freer v u t a version n st won idle = ap (λ (z : View (List ℕ)). tab_at z inner) st.leaves ∙ (let z = eq-eqb n (last_find a v.trail) won in rw (z, idle) refl)
-      ∙ get_or-set_other (set v.tabs inner (Freeing (freer_of a false n (chain_of st.state a)))) t inner (Writing (writer_of a version)) Free (let w = st.may.allowed.1.writes in omega arith)
-      ∙ get_or-set_same v.tabs inner (Freeing (freer_of a false n (chain_of st.state a))) Free (let n = st.may.pass in omega arith)
+  -- its tabs are nine still
+  evict_long : (v u : View (List ℕ)) (t a n : ℕ) → (st : Steps g v (Evict t a) n u) → n ≡ last_find a v.trail → IsPass u
+  evict_long v u t a n st won = ap (λ (z : View (List ℕ)). length z.tabs) st.leaves ∙ (let z = eq-eqb n (last_find a v.trail) won in rw z refl)
+      ∙ (length-set (set v.tabs t Free) inner (Freeing (freer_of a true n (chain_of st.state a))) ∙ (length-set v.tabs t Free ∙ st.may.pass))
 
 module _ (g : Ground (List ℕ)) (rename : ℕ → ℕ) where
   -- After an entry that nobody reads was evicted its chain is at the inner tab, and its anchor at FREEING.
   pub record EvictedAt (lot : Lot) (u : View (List ℕ)) (a : ℕ) (p : Plain) (guests : ℕ → ℕ) : Type 0 where
     pub inside : a < g.setting.anchors
+    pub nine : IsPass u
     pub freer : Freer (List ℕ)
     pub is : tab_at u inner ≡ Freeing freer
     pub anchor_is : freer.anchor ≡ a
@@ -373,6 +364,7 @@ module _ (g : Ground (List ℕ)) (rename : ℕ → ℕ) where
       → entry_at p a ≡ Some e → readers p a ≡ 0 → guests a ≡ 0 → EvictedAt lot u a p guests
   evict_leaves v u t a n p guests e mine own knows st won there unread alone = record {
     inside = inside_;
+    nine = evict_long g v u t a n st won;
     freer = freer_of a true n (chain_of st.state a);
     is = evict_freer g v u t a n st won;
     anchor_is = refl;
@@ -398,31 +390,9 @@ module _ (g : Ground (List ℕ)) (rename : ℕ → ℕ) where
       found = found_mine g v u (Evict t a) n (Anchor a) st mine refl ∙ shown.word ∙ (let z = alone in omega arith)
 
   -- Then it was given back: the plain store has it no more.
-  pub evict_freed : {lot : Lot} → IsLone g → (u w : View (List ℕ)) (a : ℕ) (p : Plain) (guests : ℕ → ℕ) → FewReaders p guests → EvictedAt lot u a p guests → Freed g u w → KnowsLot g rename lot w (vacated_at a p) guests
-  evict_freed lone u w a p guests few h freed = freed_right g rename lone u w p guests a few freed (ap (λ (z : Freer (List ℕ)). z.anchor) same ∙ h.anchor_is) (ap (λ (z : Freer (List ℕ)). z.is_freeing) same ∙ h.freeing) h.others h.drawn h.word
+  pub evict_freed : {lot : Lot} (u w : View (List ℕ)) (a : ℕ) (p : Plain) (guests : ℕ → ℕ) → FewReaders p guests → OwnsLot g lot u.pass → Mine g u (Anchor a) → EvictedAt lot u a p guests → Freed g u w
+      → KnowsLot g rename lot w (vacated_at a p) guests
+  evict_freed u w a p guests few owns mine h freed = freed_right g rename u w h.nine p guests a few owns mine freed (ap (λ (z : Freer (List ℕ)). z.anchor) same ∙ h.anchor_is) (ap (λ (z : Freer (List ℕ)). z.is_freeing) same ∙ h.freeing) h.others h.drawn h.word
     where
       same : freed.freer ≡ h.freer
       same = same_freer freed.freer h.freer (sym freed.was ∙ h.is)
-
-  -- The anchor of an idle entry was taken, and what it had was given back: nothing is said of that anchor but its word.
-  pub record TookOver (lot : Lot) (w : View (List ℕ)) (a version : ℕ) (p : Plain) (guests : ℕ → ℕ) : Type 0 where
-    pub others : KnowsLotBut g rename lot w p guests a
-    pub word : has g w (Anchor a) ≡ word_at_stage version 1
-
-  pub take_freed : {lot : Lot} → IsLone g → (v u w : View (List ℕ)) (t a version n : ℕ) (p : Plain) (guests : ℕ → ℕ) → FewReaders p guests → KnowsLot g rename lot v p guests → (st : Steps g v (Take t a version) n u) → n ≡ last_find a v.trail → is_idle n ≡ true
-      → Freed g u w → TookOver lot w a version p guests
-  take_freed lone v u w t a version n p guests few knows st won idle freed = record {
-    others = freed_but g rename lone u w p guests a few freed (ap (λ (z : Freer (List ℕ)). z.anchor) freer_is) (but_step g rename v u (Take t a version) n p p guests a st refl inside (same_else p a) (knows_but g rename v p guests a knows));
-    word = (freed_same g rename lone u w freed).same (Anchor a) tt inside (not_freed (ap (λ (z : Freer (List ℕ)). z.is_freeing) freer_is)) ∙ has_left g v u (Take t a version) n (Anchor a) st refl
-        ∙ (let z = eq-eqb n (last_find a v.trail) won in rw z refl);
-  }
-    where
-      inside : a < g.setting.anchors
-      inside = st.may.allowed.0
-
-      freer_is : freed.freer ≡ freer_of a false n (chain_of st.state a)
-      freer_is = same_freer freed.freer (freer_of a false n (chain_of st.state a)) (sym freed.was ∙ take_freer g v u t a version n st won idle)
-
-      not_freed : freed.freer.is_freeing ≡ false → FreedAt g rename lone freed.freer (Anchor a) → ⊥
-      not_freed off (inl x) = let e = x.1 in cc
-      not_freed off (inr x) = false≢true (sym off ∙ x.0)

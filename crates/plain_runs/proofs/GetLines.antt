@@ -34,15 +34,16 @@ use Rattle.store_serve.specs.Tabs.{IsFree}
 use Rattle.store_serve.specs.Whole.{Gets, whole_tab}
 use Rattle.worker_shelf.specs.Typed.{IsTyped}
 use Rattle.crew_accounts.proofs.GivenBytes.{IsFromFront}
-use Rattle.plain_runs.specs.Shows.{Shows, ShowsTab}
-use Rattle.plain_runs.specs.Words.{IsLone, setting_of, whole_lot}
-use Rattle.plain_runs.proofs.OwnAnchors.{owns_lone}
+use Rattle.store_serve.proofs.Readers.{gave, opened}
+use Rattle.crew_accounts.proofs.ReadingOn.{gives_on}
+use Rattle.plain_runs.specs.Shows.{Shows, ShowsLot, ShowsTab}
+use Rattle.plain_runs.specs.Words.{IsLone, Lot, setting_of, whole_lot}
+use Rattle.plain_runs.proofs.OwnAnchors.{OwnsLot, lot_lone, lot_stays}
 use Rattle.plain_runs.proofs.InnerTabs.{went_inner}
-use Rattle.plain_runs.proofs.ServedLines.{IsAs}
 use Rattle.plain_runs.proofs.Opening.{OpenRight, closed_shows, opened_right, opened_store, other_url, refused_right}
-use Rattle.plain_runs.proofs.Renamed.{IsRenamed, own_step, renamed_step}
+use Rattle.plain_runs.proofs.Renamed.{IsAs, IsRenamed, own_step, renamed_step}
 use Rattle.plain_runs.proofs.Reading.{ReadRight, more_hand, more_long, more_reads, went_right}
-use Rattle.plain_runs.proofs.ShowingOthers.{OneBegins, ShowsOn}
+use Rattle.plain_runs.proofs.ShowingOthers.{OneBegins, ShowsOn, within_free}
 
 -- the answer to the last bytes, where a whole response was read
 whole_answer : (version : ℕ) (why : More) (bytes : List ℕ) (a : Answer) → AnswersWhole version why bytes a → (b : Answer) × AnswersMore why bytes b × (a ≡ hit_by version b)
@@ -60,8 +61,9 @@ hit_renamed : (rename : ℕ → ℕ) (version : ℕ) (a : Answer) → hit_by (re
 hit_renamed rename version (answer.End bytes) = refl
 hit_renamed rename version a = refl
 
-module _ {C O : Type 0} (tells : Bool) (state : C → CellState) (offers : O → Offers) (s : Store C O) (rename : ℕ → ℕ) (lone : IsLone (basis tells state offers s)) (begins : OneBegins) (known : IsTrue tells) (file : HoldsFile (basis tells state offers s))
-    (from : IsFromFront) (sized : (basis tells state offers s).slot < 4294967296) (url : List ℕ) (p q : Pass C) (pl : Plain) (h : Shows tells state offers s rename p pl) where
+module _ {C O : Type 0} (tells : Bool) (state : C → CellState) (offers : O → Offers) (s : Store C O) (rename : ℕ → ℕ) (lot : Lot) (begins : OneBegins) (known : IsTrue tells) (file : HoldsFile (basis tells state offers s))
+    (from : IsFromFront) (sized : (basis tells state offers s).slot < 4294967296) (url : List ℕ) (p q : Pass C) (pl : Plain) (owns : OwnsLot (basis tells state offers s) lot (view p).pass)
+    (h : ShowsLot tells state offers s rename p pl lot) (ours : lot.anchors (anchor_for (basis tells state offers s) url) ≡ true) where
   abbrev g : Ground (List ℕ)
   g = basis tells state offers s
 
@@ -76,16 +78,16 @@ module _ {C O : Type 0} (tells : Bool) (state : C → CellState) (offers : O →
     get_misses : (c : Cause) → judge (setting_of g) pl a (key_of url) ≡ Some c → get (setting_of g) url pl ≡ step (answer.Miss c) pl
     get_misses c j = rw (free, j) refl
 
-    get_hits : judge (setting_of g) pl a (key_of url) ≡ None → get (setting_of g) url pl ≡ step (hit_by (place_at pl a).version (more (setting_of g) 7 (opened_store tells state offers s rename lone 7 url p pl h below)).answer)
-        (close 7 (more (setting_of g) 7 (opened_store tells state offers s rename lone 7 url p pl h below)).after).after
+    get_hits : judge (setting_of g) pl a (key_of url) ≡ None → get (setting_of g) url pl ≡ step (hit_by (place_at pl a).version (more (setting_of g) 7 (opened_store tells state offers s rename lot 7 url p pl owns h ours below)).answer)
+        (close 7 (more (setting_of g) 7 (opened_store tells state offers s rename lot 7 url p pl owns h ours below)).after).after
     get_hits j = rw (free, j) refl
 
   -- so it is answered
   abbrev GetsRight : Answer → Type 0
-  GetsRight given = IsRenamed tells state offers s rename given q 7 (get (setting_of g) url pl)
+  GetsRight given = IsRenamed tells state offers s rename lot given q 7 (get (setting_of g) url pl)
 
-  is_step : (given : Answer) (r : Step) → get (setting_of g) url pl ≡ r → given ≡ renamed rename r.answer → ShowsOn tells state offers s rename q r.after 7 → GetsRight given
-  is_step given r e answered shows = renamed_step tells state offers s rename given q 7 (get (setting_of g) url pl) r e answered shows
+  is_step : (given : Answer) (r : Step) → get (setting_of g) url pl ≡ r → given ≡ renamed rename r.answer → ShowsOn tells state offers s rename lot q r.after 7 → GetsRight given
+  is_step given r e answered shows = renamed_step tells state offers s rename lot given q 7 (get (setting_of g) url pl) r e answered shows
 
   module _ (free : tab_at pl 7 ≡ Free) (given : Answer) (typed : IsTyped given) (fair : is_fault given ≡ false) (hand : q.hand ≡ p.hand) (freed : IsFree q 7) where
     hand_is : hand_in g.setting.anchors q.hand ≡ pl.hand
@@ -93,13 +95,13 @@ module _ {C O : Type 0} (tells : Bool) (state : C → CellState) (offers : O →
 
     module _ (version : ℕ) (ended : More) (bytes : List ℕ) (is : AnswersWhole version ended bytes given) (got : GotEntry tells state offers s 7 url p q bytes version ended) where
       abbrev pl1 : Plain
-      pl1 = opened_store tells state offers s rename lone 7 url p pl h below
+      pl1 = opened_store tells state offers s rename lot 7 url p pl owns h ours below
 
       abbrev other : Bool
-      other = other_url tells state offers s rename lone 7 url p pl h below
+      other = other_url tells state offers s rename lot 7 url p pl owns h ours below
 
-      r : OpenRight tells state offers s rename lone 7 url p pl h below version got.offer got.opened got.reads
-      r = opened_right tells state offers s rename lone 7 url p pl h below free got.opened version got.opens got.offer got.reads
+      r : OpenRight tells state offers s rename lot 7 url p pl owns h ours below version got.offer got.opened got.reads
+      r = opened_right tells state offers s rename lot 7 url p pl owns h ours below free got.opened version got.opens got.offer got.reads
 
       eight1 : length pl1.tabs ≡ 8
       eight1 = length-set pl.tabs 7 _ ∙ h.eight
@@ -110,8 +112,16 @@ module _ {C O : Type 0} (tells : Bool) (state : C → CellState) (offers : O →
       went : WentOn tells state offers s 7 r.tab.standing got.opened got.read bytes ended
       went = subst (λ (z : Standing). WentOn tells state offers s 7 z got.opened got.read bytes ended) (sym r.standing) got.went
 
-      m : ReadRight tells state offers s rename 7 whole_lot ended bytes got.read (more (setting_of g) 7 pl1)
-      m = went_right tells state offers s rename 7 begins known file from sized got.opened got.read pl1 a 0 eight1 below whole_lot r.knows (owns_lone g lone (view got.opened).pass a) refl other at1 r.tab ended bytes went (whole_fault version ended bytes given is fair)
+      -- the pass keeps its number
+      opened_pass : (view got.opened).pass ≡ (view p).pass
+      opened_pass = (opened g 7 got.opens).pass
+
+      read_pass : (view got.read).pass ≡ (view p).pass
+      read_pass = (gave tells state offers s 7 went.standing went.middle went.before went.after got.read ended went.ends).pass
+          ∙ (gives_on tells state offers s 7 r.tab.standing got.opened went.calls went.standing went.middle _ r.tab.reads went.gives).keeps.pass ∙ opened_pass
+
+      m : ReadRight tells state offers s rename 7 lot ended bytes got.read (more (setting_of g) 7 pl1)
+      m = went_right tells state offers s rename 7 begins known file from sized got.opened got.read pl1 a 0 eight1 below lot r.knows (lot_stays g lot (view p) (view got.opened) opened_pass owns a r.tab.inside ours) ours other at1 r.tab ended bytes went (whole_fault version ended bytes given is fair)
 
       abbrev pl2 : Plain
       pl2 = (more (setting_of g) 7 pl1).after
@@ -124,9 +134,9 @@ module _ {C O : Type 0} (tells : Bool) (state : C → CellState) (offers : O →
           ∙ ap (λ (xs : List (core_tab.Tab (List ℕ))). core.is_free (get_or xs inner core_tab.Tab.Free)) got.opens.tabs
           ∙ ap core.is_free (get_or-set_other (view p).tabs 7 inner _ core_tab.Tab.Free (λ e. omega arith)) ∙ h.inner_free
 
-      closed : ShowsOn tells state offers s rename q (close 7 pl2).after 7
-      closed = closed_shows tells state offers s rename lone 7 got.read q pl2 a reads2.0 reads2.1 (more_long (setting_of g) 7 a 0 other pl1 at1 ∙ eight1) below inner2 m.knows reads2.2
-          (subst (ShowsTab tells state offers s rename got.read pl2 7) reads2.2 m.tab) got.parted freed (hand_is ∙ sym (more_hand (setting_of g) 7 pl1))
+      closed : ShowsOn tells state offers s rename lot q (close 7 pl2).after 7
+      closed = closed_shows tells state offers s rename lot 7 got.read q pl2 a reads2.0 reads2.1 (more_long (setting_of g) 7 a 0 other pl1 at1 ∙ eight1) below inner2 m.knows reads2.2
+          (subst (ShowsTab tells state offers s rename got.read pl2 7) reads2.2 m.tab) (lot_stays g lot (view p) (view got.read) read_pass owns) ours got.parted freed (hand_is ∙ sym (more_hand (setting_of g) 7 pl1))
 
       answered : given ≡ renamed rename (hit_by (place_at pl a).version (more (setting_of g) 7 pl1).answer)
       answered = let b = whole_answer version ended bytes given is in
@@ -137,13 +147,13 @@ module _ {C O : Type 0} (tells : Bool) (state : C → CellState) (offers : O →
 
     got_right : (got : Got) (bytes : List ℕ) → AnswersGet got bytes given → GotAs tells state offers s 7 url p q bytes got → GetsRight given
     got_right (Missing cause) bytes is got =
-        let r = refused_right tells state offers s rename lone 7 url p pl h below (view q) cause (subst IsTyped is typed) got.1 in
+        let r = refused_right tells state offers s rename lot 7 url p pl owns h ours below (view q) cause (subst IsTyped is typed) got.1 in
         is_step given (step (answer.Miss r.cause) pl) (get_misses free r.cause r.judged) (is ∙ ap answer.Miss r.cause_is)
-        record { knows = r.knows; hand = hand_is; tab = subst (ShowsTab tells state offers s rename q pl 7) (sym free) freed }
+        record { knows = r.knows; hand = hand_is; tab = subst (ShowsTab tells state offers s rename q pl 7) (sym free) freed; within = within_free lot (tab_at pl 7) free }
     got_right (Found version ended) bytes is got = of_entry version ended bytes is got
 
   -- A request to get the entry of a URL.
-  pub gets_right : (given : Answer) → tab_at pl whole_tab ≡ Free → IsTyped given → is_fault given ≡ false → q.hand ≡ p.hand → Gets tells state offers s url p given q → IsRenamed tells state offers s rename given q whole_tab (get (setting_of g) url pl)
+  pub gets_right : (given : Answer) → tab_at pl whole_tab ≡ Free → IsTyped given → is_fault given ≡ false → q.hand ≡ p.hand → Gets tells state offers s url p given q → IsRenamed tells state offers s rename lot given q whole_tab (get (setting_of g) url pl)
   gets_right given free typed fair hand k = got_right free given typed fair hand k.free k.got k.bytes k.answer_is k.went
 
 -- The request, where each version stands for itself.
@@ -152,4 +162,4 @@ module _ {C O : Type 0} (tells : Bool) (state : C → CellState) (offers : O →
       → Shows tells state offers s (λ v. v) p plain → tab_at plain whole_tab ≡ Free → IsTyped given → is_fault given ≡ false → q.hand ≡ p.hand → Gets tells state offers s url p given q
       → IsAs tells state offers s given q whole_tab (get (setting_of (basis tells state offers s)) url plain)
   gets_as begins known file from sized url p q given plain shows free typed fair hand h =
-      own_step tells state offers s given q whole_tab _ (gets_right tells state offers s (λ v. v) lone begins known file from sized url p q plain shows given free typed fair hand h)
+      own_step tells state offers s given q whole_tab _ (gets_right tells state offers s (λ v. v) whole_lot begins known file from sized url p q plain (lot_lone (basis tells state offers s) lone whole_lot (view p).pass) shows refl given free typed fair hand h)

@@ -1,5 +1,5 @@
 -- An entry that a tab gives up, in the store and in the plain store.
-use Rattle.std.proofs.Common.{Contains, List, None, Option, Some, ap, arith, cond, get_or-set_other, get_or-set_same, inl, inr, length, length-set, refl, set, subst, sym, ◌-◌, ◌/◌, ◌<◌, ◌==◌, ◌∙◌, ◌≡◌, ◌≤◌, ◌⊎◌, ℕ}
+use Rattle.std.proofs.Common.{Contains, List, None, Option, Some, ap, arith, cond, get_or-set_other, get_or-set_same, inl, inr, length, length-set, refl, set, subst, sym, true, ◌-◌, ◌/◌, ◌<◌, ◌==◌, ◌∙◌, ◌≡◌, ◌≤◌, ◌⊎◌, ℕ}
 use Rattle.lock_word.specs.Words.{epoch_of as epoch_in, raised, stage_number, stage_of as stage_in, word_number}
 use Rattle.lock_word.specs.declared.stage.Stage.{Stage}
 use Rattle.lock_word.specs.declared.stage.Stage.TheVariants as stage
@@ -33,19 +33,19 @@ use Rattle.rock_writer.specs.Halting.{GaveBack, GaveUnlinked, Halts, Parted, fir
 use Rattle.rock_writer.proofs.GivingBack.{gave_nine, gave_tab, given}
 use Rattle.store_rule.specs.Ground.{Ground}
 use Rattle.store_rule.specs.Told.{Stands, Steps}
-use Rattle.plain_runs.specs.Words.{EndsSo, IsLone, Knows, ShowsAt, ShowsEntry, ShowsEntryIf, no_guests, slots_published}
+use Rattle.plain_runs.specs.Words.{EndsSo, KnowsLot, Lot, ShowsAt, ShowsEntry, ShowsEntryIf, no_guests, slots_published}
 use Rattle.plain_laws.specs.Renaming.{renamed_word}
 use Rattle.plain_laws.proofs.Choosing.{either}
 use Rattle.plain_laws.proofs.Sums.{inside}
 use Rattle.plain_runs.proofs.Flushing.{entry_shown, staged, staged_raised, word_staged}
 use Rattle.plain_runs.proofs.Frames.{SameBut, knows_same, same_none, same_on, same_weaker, step_same, step_same_map}
 use Rattle.core_alone.specs.Touched.{places_in}
-use Rattle.plain_runs.proofs.Freeing.{KnowsBut, SameElse, but_step, knows_all, knows_but}
+use Rattle.plain_runs.proofs.Freeing.{KnowsLotBut, SameElse, but_step, knows_all, knows_but}
 use Rattle.plain_runs.proofs.LeftTabs.{entry_kept, raised_parts_right}
-use Rattle.plain_runs.proofs.OwnAnchors.{mine_lone, stands_before}
+use Rattle.plain_runs.proofs.OwnAnchors.{OwnsLot, lot_stays, pass_stays, stands_before}
 use Rattle.plain_runs.proofs.PlainWords.{readers_fit, readers_put, stage_counted}
 use Rattle.plain_runs.proofs.Published.{anchor_there, raise_left, reserved_there}
-use Rattle.plain_runs.proofs.Reserving.{IsReadied}
+use Rattle.plain_runs.proofs.Reserving.{IsReady}
 
 module _ (g : Ground (List ℕ)) (t : ℕ) (below : t < inner) where
   -- What giving a slot back leaves, if there is one.
@@ -56,6 +56,7 @@ module _ (g : Ground (List ℕ)) (t : ℕ) (below : t < inner) where
     anchor : writer.anchor ≡ x.anchor
     inner_free : InnerIsFree w
     pass : IsPass w
+    number : w.pass ≡ v.pass
     others : Others t v w
 
   gave_so : (o : Option ℕ) (v w : View (List ℕ)) (x : Writer (List ℕ)) → IsPass v → tab_at v t ≡ Writing x → InnerIsFree v → GaveBack g t o v w → GaveSo v w x
@@ -66,6 +67,7 @@ module _ (g : Ground (List ℕ)) (t : ℕ) (below : t < inner) where
     anchor = refl;
     inner_free = (gave_tab g t below None v w x pass is free gave).1;
     pass = gave_nine g t None v w pass gave;
+    number = ap View.pass gave;
     others = λ j ne far. ap (λ (z : View (List ℕ)). tab_at z j) gave;
   }
   gave_so (Some slot) v w x pass is free gave = record {
@@ -75,6 +77,7 @@ module _ (g : Ground (List ℕ)) (t : ℕ) (below : t < inner) where
     anchor = refl;
     inner_free = (gave_tab g t below (Some slot) v w x pass is free gave).1;
     pass = gave_nine g t (Some slot) v w pass gave;
+    number = pass_stays g v w (Disown t slot) gave.found gave.step;
     others = others_stay g v w (Disown t slot) gave.found t gave.step (λ z k. acts k);
   }
     where
@@ -99,6 +102,7 @@ module _ (g : Ground (List ℕ)) (t : ℕ) (below : t < inner) where
         anchor = b.anchor ∙ a.anchor;
         inner_free = b.inner_free;
         pass = b.pass;
+        number = b.number ∙ a.number;
         others = others_go_on v gave.middle w t a.others b.others;
       }
         where
@@ -169,13 +173,13 @@ module _ (g : Ground (List ℕ)) (rename : ℕ → ℕ) (t : ℕ) (below : t < i
       raises_to : raised n (stage_number to - stage_in (epoch_in n)) ≡ staged rename p a to
       raises_to = ap (λ (z : ℕ). raised z (stage_number to - stage_in (epoch_in z))) found ∙ (ap (λ (k : ℕ). raised (staged rename p a from) (stage_number to - k)) stage_is ∙ staged_raised rename p a from to le)
 
-module _ (g : Ground (List ℕ)) (lone : IsLone g) (rename : ℕ → ℕ) (t : ℕ) (below : t < inner) where
+module _ (g : Ground (List ℕ)) (rename : ℕ → ℕ) (lot : Lot) (t : ℕ) (below : t < inner) where
   -- The tab ends its entry and parts from it.
-  pub ended_right : (life : Life) (from to : Stage) (u v w : View (List ℕ)) (p : Plain) (x : Entry) (y : Writer (List ℕ)) (a n : ℕ) → y.anchor ≡ a → EndsAs life to → stage_number from ≤ stage_number to → IsPass u → Stands g u → tab_at u t ≡ Writing y
-      → length p.tabs ≡ 8 → plain_tab p t ≡ plain.Writing a → entry_at p a ≡ Some x → KnowsBut g rename u p no_guests a → has g u (Anchor a) ≡ staged rename p a from
-      → ShowsEntry g u a (place_at p a).version (record x { life = life }) → Steps g u (Raise t to) n v → Parted g t v w → Knows g rename w (close_writer life t a p) no_guests
-  ended_right life from to u v w p x y a n same ends le pass stands is eight plain_is there but word entry raises parted =
-      raised_parts_right g rename lone u v w t a n to y (ended_with life t a p) (length-set p.tabs t plain.Free ∙ eight) raises (ends_either life to ends) is same lt refl knows parted
+  pub ended_right : (life : Life) (from to : Stage) (u v w : View (List ℕ)) (p : Plain) (x : Entry) (y : Writer (List ℕ)) (a n : ℕ) → OwnsLot g lot u.pass → lot.anchors a ≡ true → y.anchor ≡ a → EndsAs life to → stage_number from ≤ stage_number to → IsPass u → Stands g u → tab_at u t ≡ Writing y
+      → length p.tabs ≡ 8 → plain_tab p t ≡ plain.Writing a → entry_at p a ≡ Some x → KnowsLotBut g rename lot u p no_guests a → has g u (Anchor a) ≡ staged rename p a from
+      → ShowsEntry g u a (place_at p a).version (record x { life = life }) → Steps g u (Raise t to) n v → Parted g t v w → KnowsLot g rename lot w (close_writer life t a p) no_guests
+  ended_right life from to u v w p x y a n owns ours same ends le pass stands is eight plain_is there but word entry raises parted =
+      raised_parts_right g rename u v w t a n to y (ended_with life t a p) (lot_stays g lot u v (pass_stays g u v (Raise t to) n raises) owns) (length-set p.tabs t plain.Free ∙ eight) raises (ends_either life to ends) is same lt ours knows parted
     where
       few_tabs : t < length p.tabs
       few_tabs = let b = below in omega arith
@@ -187,7 +191,7 @@ module _ (g : Ground (List ℕ)) (lone : IsLone g) (rename : ℕ → ℕ) (t : �
       here = ap (λ (z : Tab (List ℕ)). Some (Anchor (anchor_of z))) is ∙ ap (λ (z : ℕ). Some (Anchor z)) same
 
       word_after : has g v (Anchor a) ≡ staged rename p a to
-      word_after = (raised_so g rename t below from to u v p y a n (mine_lone g lone u (Anchor y.anchor)) le same is eight word raises).0
+      word_after = (raised_so g rename t below from to u v p y a n ((owns a lt ours).words u (Anchor y.anchor) refl same) le same is eight word raises).0
 
       at_place : place_at (ended_with life t a p) a ≡ record (place_at p a) { entry = Some (record x { life = life }) } → ShowsAt g rename v (ended_with life t a p) 0 a
       at_place now = record {
@@ -198,7 +202,7 @@ module _ (g : Ground (List ℕ)) (lone : IsLone g) (rename : ℕ → ℕ) (t : �
             (entry_kept g rename u v a (place_at p a).version (Some (record x { life = life })) lt (step_same g u v (Raise t to) n (Anchor a) raises (ap places_in here) lt) entry);
       }
 
-      knows : Knows g rename v (ended_with life t a p) no_guests
+      knows : KnowsLot g rename lot v (ended_with life t a p) no_guests
       knows = knows_all g rename v (ended_with life t a p) no_guests a
           (but_step g rename u v (Raise t to) n p (ended_with life t a p) no_guests a raises (ap places_in here) lt (ended_else life t a p few_tabs plain_is) but)
           (λ k own. at_place (ended_at life t a p x there))
@@ -235,17 +239,17 @@ module _ (g : Ground (List ℕ)) (lone : IsLone g) (rename : ℕ → ℕ) (t : �
 
   -- What halting leaves: the plain store gave the entry up.
   pub record HasHalted (v w : View (List ℕ)) (a : ℕ) (p : Plain) : Type 0 where
-    pub knows : Knows g rename w (close_writer GivenUp t a p) no_guests
+    pub knows : KnowsLot g rename lot w (close_writer GivenUp t a p) no_guests
     pub free : tab_at w t ≡ Free
     pub inner_free : InnerIsFree w
 
-  pub halts_right : (v w : View (List ℕ)) (p : Plain) (hand : ℕ) (x : Entry) (y : Writer (List ℕ)) → IsReadied g lone rename t v p hand → tab_at v t ≡ Writing y → plain_tab p t ≡ plain.Writing y.anchor
+  pub halts_right : (v w : View (List ℕ)) (p : Plain) (x : Entry) (y : Writer (List ℕ)) → IsReady g rename lot v p → lot.anchors y.anchor ≡ true → tab_at v t ≡ Writing y → plain_tab p t ≡ plain.Writing y.anchor
       → entry_at p y.anchor ≡ Some x → x.life ≡ Growing → Halts g t v w → HasHalted v w y.anchor p
-  halts_right v w p hand x y ready is plain_is there grows h = record {
-    knows = ended_right GivenUp (stage_of_entry (room_of g.slot) Growing x.content) stage.Halted h.middle h.raised w p x gave.writer y.anchor h.word gave.anchor refl (let k = growing_stage (room_of g.slot) x.content in omega arith)
-        gave.pass (stands_before h.raises) gave.tab ready.eight plain_is there (knows_but g rename h.middle p no_guests y.anchor knows)
-        (word_staged g rename h.middle p y.anchor (knows.each y.anchor lt refl) x there (stage_of_entry (room_of g.slot) Growing x.content) (ap (λ (l : Life). stage_of_entry (room_of g.slot) l x.content) grows))
-        (given_up h.middle y.anchor (place_at p y.anchor).version x (entry_shown g rename h.middle p y.anchor (knows.each y.anchor lt refl) x there) grows) h.raises h.parted;
+  halts_right v w p x y ready ours is plain_is there grows h = record {
+    knows = ended_right GivenUp (stage_of_entry (room_of g.slot) Growing x.content) stage.Halted h.middle h.raised w p x gave.writer y.anchor h.word (lot_stays g lot v h.middle gave.number ready.owns) ours gave.anchor refl
+        (let k = growing_stage (room_of g.slot) x.content in omega arith) gave.pass (stands_before h.raises) gave.tab ready.eight plain_is there (knows_but g rename h.middle p no_guests y.anchor knows)
+        (word_staged g rename h.middle p y.anchor (knows.each y.anchor lt ours) x there (stage_of_entry (room_of g.slot) Growing x.content) (ap (λ (l : Life). stage_of_entry (room_of g.slot) l x.content) grows))
+        (given_up h.middle y.anchor (place_at p y.anchor).version x (entry_shown g rename h.middle p y.anchor (knows.each y.anchor lt ours) x there) grows) h.raises h.parted;
     free = h.parted.free;
     inner_free = h.parted.inner_free;
   }
@@ -256,5 +260,5 @@ module _ (g : Ground (List ℕ)) (lone : IsLone g) (rename : ℕ → ℕ) (t : �
       lt : y.anchor < g.setting.anchors
       lt = anchor_there g v t y ready.stands ready.pass below is
 
-      knows : Knows g rename h.middle p no_guests
+      knows : KnowsLot g rename lot h.middle p no_guests
       knows = knows_same g rename v h.middle p no_guests ready.knows gave.same

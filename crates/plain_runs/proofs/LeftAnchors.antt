@@ -29,9 +29,9 @@ use Rattle.store_rule.specs.Ground.{Ground, left_to}
 use Rattle.store_rule.specs.Told.{Stands, Steps}
 use Rattle.store_rule.specs.Words.{Mine, has, is_mine}
 use Rattle.store_rule.proofs.MyWords.{looked_known}
-use Rattle.plain_runs.specs.Words.{link_known}
+use Rattle.plain_runs.specs.Words.{Lot, link_known}
 use Rattle.plain_runs.proofs.Chains.{ReservedAt, end_spot, end_unwritten, reserved_inside, standing_inside}
-use Rattle.plain_runs.proofs.OwnAnchors.{IsOfAnchor, OwnsAnchor}
+use Rattle.plain_runs.proofs.OwnAnchors.{IsOfAnchor, OwnsAnchor, OwnsLot}
 
 -- a tab that is not free is at its anchor
 at_its_anchor : (x : Tab (List ℕ)) → (x ≡ Free → ⊥) → IsTabAt x (anchor_of x)
@@ -162,3 +162,7 @@ module _ (g : Ground (List ℕ)) (pass a : ℕ) (lt : a < g.setting.anchors) (le
     tabs = λ v st j t tab same nine is used at. own_tabs v same st nine j t tab is used at;
     spelled = λ v st same nine low starts. own_spelled v same st nine starts;
   }
+
+-- So is a lot whose anchors are all left to the pass.
+pub lot_left : (g : Ground (List ℕ)) (lot : Lot) (pass : ℕ) → ((a : ℕ) → a < g.setting.anchors → lot.anchors a ≡ true → left_to g pass a ≡ true) → OwnsLot g lot pass
+lot_left g lot pass left a lt ours = owns_left g pass a lt (left a lt ours)

@@ -1,9 +1,10 @@
 -- A tab leaves its anchor, and what nobody uses any more goes from the plain store.
-use Rattle.std.proofs.Common.{Bool, List, None, Option, Some, ap, arith, cond, eq-eqb, false, get_or, get_or-set_other, get_or-set_same, inl, inr, length, ne_eqb, refl, subst, sym, true, ◌&&◌, ◌+◌, ◌-◌, ◌<◌, ◌==◌, ◌||◌, ◌≤◌, ◌∙◌, ◌≡◌, ◌≢◌, ◌⊎◌, ℕ}
+use Rattle.std.proofs.Common.{Bool, List, None, Option, Some, ap, arith, cond, eq-eqb, false, get_or, get_or-set_other, get_or-set_same, inl, inr, length, ne_eqb, refl, subst, sym, true, ◌&&◌, ◌+◌, ◌-◌, ◌<◌, ◌==◌, ◌||◌, ◌≤◌, ◌∙◌, ◌≡◌, ◌≢◌, ◌⊎◌, ⊎_elim, ℕ}
 use Rattle.std.proofs.lemmas.Bool.{false≢true}
 use mathlib.Core.Logic.{dite}
 use native.Mathlib.Decide.{ℕ_discrete}
-use Rattle.lock_word.specs.Words.{is_left_over, word_number}
+use Rattle.lock_word.specs.Words.{epoch_of, is_left_over, mode_of, stage_of, word_number}
+use Rattle.lock_word.proofs.Testing.{readers_of-left_over, stage_of-left_over}
 use Rattle.lock_word.specs.declared.stage.Stage.{Stage}
 use Rattle.lock_word.specs.declared.stage.Stage.TheVariants as stage
 use Rattle.core_model.specs.AnchorMoves.{left_tab, raised_tab}
@@ -35,14 +36,16 @@ use Rattle.store_rule.proofs.MyWords.{found_mine}
 use Rattle.rw_anchor.specs.Calls.{GivenUp as TriedToFree, Gone, LeftLast, Leaves}
 use Rattle.rw_anchor.specs.declared.Left.{Left}
 use Rattle.slice_chain.specs.Freeing.{Freed}
+use Rattle.purge_entry.specs.Wiping.{IsInUse, LeftInUse, WasOvertaken, WipedAndFreed}
 use Rattle.rock_reader.specs.Closing.{Parted}
 use Rattle.rock_reader.proofs.Parting.{done_tabs, freed_tabs, not_last, set_free}
 use Rattle.rock_writer.specs.Halting.{FreedLast, LeftToOther, Parted as WriterParted, Stayed}
-use Rattle.plain_runs.specs.Words.{IsLone, KnowsLot, Lot, ShowsAt, ShowsEntryIf, no_guests, setting_of}
+use Rattle.plain_runs.specs.Words.{KnowsLot, Lot, ShowsAt, ShowsEntryIf, no_guests, setting_of}
 use Rattle.plain_runs.proofs.Frames.{SameBut, chain_same, names_same, step_same}
-use Rattle.plain_runs.proofs.OwnAnchors.{OwnsAnchor, mine_lone, owns_lone, pass_stays}
+use Rattle.plain_runs.proofs.OwnAnchors.{OwnsAnchor, OwnsLot, lot_stays, pass_stays}
 use Rattle.plain_runs.proofs.PlainWords.{left_over_there, readers_fit}
-use Rattle.plain_runs.proofs.Freeing.{FewReaders, but_guests, but_step, evict_freed, evict_leaves, knows_all, knows_but, same_else, vacated_at}
+use Rattle.plain_runs.proofs.Wiping.{evicted_wiped, wiped_pass}
+use Rattle.plain_runs.proofs.Freeing.{EvictedAt, FewReaders, but_guests, but_step, evict_freed, evict_leaves, knows_all, knows_but, same_else, vacated_at}
 
 -- eight tabs read at each anchor at most
 pub few_all : (p : Plain) (guests : ℕ → ℕ) → length p.tabs ≡ 8 → ((b : ℕ) → guests b ≤ 1) → FewReaders p guests
@@ -75,6 +78,18 @@ is_over p a h = of_entry (entry_at p a) refl (readers p a) refl h
 
         none : (n : ℕ) → (n == 0) ≡ true → n ≡ 0
         none n e = dite (ℕ_discrete n 0) (λ z. z) (λ ne. absurd (let f = ne_eqb n 0 ne in false≢true (sym f ∙ e)))
+
+-- an entry that is in use is not left over
+used_stays : (n : ℕ) → IsInUse n → is_left_over n ≡ false
+used_stays n used = by_test (is_left_over n) refl
+  where
+    none : is_left_over n ≡ true → IsInUse n → ⊥
+    none e (inl some) = let z = readers_of-left_over n e in absurd (omega arith)
+    none e (inr other) = ⊎_elim (λ (s : stage_of (epoch_of n) ≡ 4). other.1 s) (λ (m : mode_of (epoch_of n) ≡ 11). other.0 (omega arith)) (stage_of-left_over n e)
+
+    by_test : (b : Bool) → is_left_over n ≡ b → is_left_over n ≡ false
+    by_test true e = absurd (none e used)
+    by_test false e = e
 
 -- so many readers more are counted at this anchor alone
 abbrev pub guest_at : ℕ → ℕ → ℕ
@@ -125,10 +140,22 @@ module _ (g : Ground (List ℕ)) (rename : ℕ → ℕ) where
       }
 
   -- The entry that a last tab left over is freed, and nobody comes before.
-  pub last_right : {lot : Lot} → IsLone g → (v u w : View (List ℕ)) (t a n : ℕ) (p : Plain) → length p.tabs ≡ 8 → lot.anchors a ≡ true → KnowsLot g rename lot v p no_guests → is_left_over_at p a ≡ true → Steps g v (Evict t a) n u → n ≡ last_find a v.trail → Freed g u w
+  -- whatever is done before each slot is given back
+  last_by : {lot : Lot} (v u w : View (List ℕ)) (t a n : ℕ) (p : Plain) → OwnsLot g lot v.pass → lot.anchors a ≡ true → KnowsLot g rename lot v p no_guests → is_left_over_at p a ≡ true → Steps g v (Evict t a) n u → n ≡ last_find a v.trail
+      → (OwnsLot g lot u.pass → EvictedAt g rename lot u a p no_guests → KnowsLot g rename lot w (vacated_at a p) no_guests) → KnowsLot g rename lot w (settle a p) no_guests
+  last_by {lot} v u w t a n p owns ours knows over st won ends = let o = is_over p a over in let own = owns a st.may.allowed.0 ours in let same = pass_stays g v u (Evict t a) n st in
+      subst (λ q. KnowsLot g rename lot w q no_guests) (sym (settle_gone p a over))
+      (ends (lot_stays g lot v u same owns) (evict_leaves g rename v u t a n p no_guests o.entry (own.words v (Anchor a) refl refl) ours knows st won o.there o.unread refl))
+
+  -- where nothing is done before
+  freed_behind : {lot : Lot} (u w : View (List ℕ)) (a : ℕ) (p : Plain) → length p.tabs ≡ 8 → lot.anchors a ≡ true → OwnsLot g lot u.pass → Freed g u w → EvictedAt g rename lot u a p no_guests
+      → KnowsLot g rename lot w (vacated_at a p) no_guests
+  freed_behind u w a p eight ours owns freed e = evict_freed g rename u w a p no_guests (few_all p no_guests eight (λ b. omega arith)) owns ((owns a e.inside ours).words u (Anchor a) refl refl) e freed
+
+  pub last_right : {lot : Lot} (v u w : View (List ℕ)) (t a n : ℕ) (p : Plain) → OwnsLot g lot v.pass → length p.tabs ≡ 8 → lot.anchors a ≡ true → KnowsLot g rename lot v p no_guests → is_left_over_at p a ≡ true → Steps g v (Evict t a) n u → n ≡ last_find a v.trail → Freed g u w
       → KnowsLot g rename lot w (settle a p) no_guests
-  last_right {lot} lone v u w t a n p eight own knows over st won freed = let o = is_over p a over in subst (λ q. KnowsLot g rename lot w q no_guests) (sym (settle_gone p a over))
-      (evict_freed g rename lone u w a p no_guests (few_all p no_guests eight (λ b. omega arith)) (evict_leaves g rename v u t a n p no_guests o.entry (mine_lone g lone v (Anchor a)) own knows st won o.there o.unread refl) freed)
+  last_right v u w t a n p owns eight ours knows over st won freed =
+      last_by v u w t a n p owns ours knows over st won (λ there e. freed_behind u w a p eight ours there freed e)
 
   -- what the word of an anchor tells of its entry
   pub over_known : {lot : Lot} (v : View (List ℕ)) (a : ℕ) (p : Plain) → length p.tabs ≡ 8 → a < g.setting.anchors → lot.anchors a ≡ true → KnowsLot g rename lot v p no_guests → is_left_over (has g v (Anchor a)) ≡ is_left_over_at p a
@@ -180,12 +207,30 @@ module _ (g : Ground (List ℕ)) (rename : ℕ → ℕ) where
     behind_right w (inr (off, inl h)) = gone_right Left.Done w h
     behind_right w (inr (off, inr h)) = absurd (no_done w h)
 
-    pub last_freed_right : IsLone g → (m w : View (List ℕ)) → Leaves g v t Left.MustFree m → Freed g m w → KnowsLot g rename lot w (settle a p) no_guests
-    last_freed_right lone m w (inl h) freed = absurd (false≢true (sym (not_last (tab_at v t) counted) ∙ h.0))
-    last_freed_right lone m w (inr (off, inl h)) freed = absurd (let e : Left.Done ≡ Left.MustFree = sym h.done in cc)
-    last_freed_right lone m w (inr (off, inr h)) freed = subst (λ (b : ℕ). Steps g h.middle (Evict t b) h.gives_up.found m → KnowsLot g rename lot w (settle a p) no_guests) (sym (tab_left h.middle h.found h.leave h.over))
-        (λ st. last_right lone h.middle m w t a h.gives_up.found p eight ours (knows_left h.middle h.found h.leave) (sym (over_is h.middle h.found h.leave) ∙ h.over) st
-        (won_there h.middle m t a h.gives_up.found (mine_left h.middle h.found h.leave) st (find_is h.middle h.found h.leave ∙ sym (has_is h.middle h.found h.leave))) freed) h.gives_up.evict
+    -- a last tab, whatever is done before each slot is given back
+    pub last_so : OwnsLot g lot v.pass → (m w : View (List ℕ)) → Leaves g v t Left.MustFree m
+        → (OwnsLot g lot m.pass → EvictedAt g rename lot m a p no_guests → KnowsLot g rename lot w (vacated_at a p) no_guests)
+        → KnowsLot g rename lot w (settle a p) no_guests × (is_left_over_at p a ≡ true)
+    last_so owns m w (inl h) ends = absurd (false≢true (sym (not_last (tab_at v t) counted) ∙ h.0))
+    last_so owns m w (inr (off, inl h)) ends = absurd (let e : Left.Done ≡ Left.MustFree = sym h.done in cc)
+    last_so owns m w (inr (off, inr h)) ends =
+        let over : is_left_over_at p a ≡ true = sym (over_is h.middle h.found h.leave) ∙ h.over in (
+          subst (λ (b : ℕ). Steps g h.middle (Evict t b) h.gives_up.found m → KnowsLot g rename lot w (settle a p) no_guests) (sym (tab_left h.middle h.found h.leave h.over))
+              (λ st. last_by h.middle m w t a h.gives_up.found p (lot_stays g lot v h.middle (pass_stays g v h.middle (Leave t) h.found h.leave) owns) ours (knows_left h.middle h.found h.leave) over st
+              (won_there h.middle m t a h.gives_up.found (mine_left h.middle h.found h.leave) st (find_is h.middle h.found h.leave ∙ sym (has_is h.middle h.found h.leave))) ends) h.gives_up.evict,
+          over,
+        )
+
+    pub last_freed_right : OwnsLot g lot v.pass → (m w : View (List ℕ)) → Leaves g v t Left.MustFree m → Freed g m w → KnowsLot g rename lot w (settle a p) no_guests
+    last_freed_right owns m w leaves freed = (last_so owns m w leaves (λ there e. freed_behind m w a p eight ours there freed e)).0
+
+    -- a tab that left an entry which is in use; nobody else comes before it
+    pub others_right : (w : View (List ℕ)) → LeftInUse g t v w ⊎ WasOvertaken g t v w → KnowsLot g rename lot w (settle a p) no_guests × (is_left_over_at p a ≡ false)
+    others_right w (inl h) =
+        let stays : is_left_over_at p a ≡ false = sym (over_is w h.found h.leave) ∙ used_stays (h.found - 1) h.used in
+        (subst (λ q. KnowsLot g rename lot w q no_guests) (sym (settle_stays p a stays)) (knows_left w h.found h.leave), stays)
+    others_right w (inr h) = absurd (h.differs (won_there h.middle w t a h.other (mine_left h.middle h.found h.leave) (subst (λ (b : ℕ). Steps g h.middle (Evict t b) h.other w) at h.tries)
+        (find_is h.middle h.found h.leave ∙ sym (has_is h.middle h.found h.leave)) ∙ find_is h.middle h.found h.leave))
 
   -- What a tab that was counted and left comes to: the plain store is settled at its anchor, and the tab is free.
   pub record LeavesRight (lot : Lot) (t a : ℕ) (p : Plain) (v w : View (List ℕ)) : Type 0 where
@@ -207,38 +252,51 @@ module _ (g : Ground (List ℕ)) (rename : ℕ → ℕ) where
   purged_so v w a p knows tabs = record { knows = knows; tabs = tabs; free = free_by v w inner tabs; inner_free = ap is_free (free_by v w inner tabs) }
 
   -- A tab below the inner one that reads or retreats parts from its anchor.
-  pub parts_right : {lot : Lot} → IsLone g → (v w : View (List ℕ)) (t a : ℕ) (p : Plain) → length p.tabs ≡ 8 → IsPass v → t < inner → InnerIsFree v → is_counted (tab_at v t) ≡ true → anchor_of (tab_at v t) ≡ a → a < g.setting.anchors
+  pub parts_right : {lot : Lot} (v w : View (List ℕ)) (t a : ℕ) (p : Plain) → OwnsLot g lot v.pass → length p.tabs ≡ 8 → IsPass v → t < inner → InnerIsFree v → is_counted (tab_at v t) ≡ true → anchor_of (tab_at v t) ≡ a → a < g.setting.anchors
       → lot.anchors a ≡ true → KnowsLot g rename lot v p (guest_at a) → Parted g t v w → LeavesRight lot t a p v w
-  parts_right {lot} lone v w t a p eight pass below free counted at lt ours knows (inl h) = parted_so v w t a p below free (behind_right lot v t a p eight (owns_lone g lone v.pass a) ours counted at lt knows w h.leaves) (done_tabs g t v counted w h.leaves)
-  parts_right {lot} lone v w t a p eight pass below free counted at lt ours knows (inr h) = parted_so v w t a p below free (last_freed_right lot v t a p eight (owns_lone g lone v.pass a) ours counted at lt knows lone h.middle w h.leaves h.freed) (freed_tabs g t v counted (inl free) h.middle w h.leaves h.freed)
+  parts_right {lot} v w t a p owns eight pass below free counted at lt ours knows (inl h) = parted_so v w t a p below free (behind_right lot v t a p eight (owns a lt ours) ours counted at lt knows w h.leaves) (done_tabs g t v counted w h.leaves)
+  parts_right {lot} v w t a p owns eight pass below free counted at lt ours knows (inr h) = parted_so v w t a p below free (last_freed_right lot v t a p eight (owns a lt ours) ours counted at lt knows owns h.middle w h.leaves h.freed) (freed_tabs g t v counted (inl free) h.middle w h.leaves h.freed)
 
   -- The inner tab, by which an entry is purged, parts from its anchor.
-  pub purge_parts_right : {lot : Lot} → IsLone g → (v w : View (List ℕ)) (a : ℕ) (p : Plain) → length p.tabs ≡ 8 → is_counted (tab_at v inner) ≡ true → anchor_of (tab_at v inner) ≡ a → a < g.setting.anchors
+  pub purge_parts_right : {lot : Lot} (v w : View (List ℕ)) (a : ℕ) (p : Plain) → OwnsLot g lot v.pass → length p.tabs ≡ 8 → is_counted (tab_at v inner) ≡ true → anchor_of (tab_at v inner) ≡ a → a < g.setting.anchors
       → lot.anchors a ≡ true → KnowsLot g rename lot v p (guest_at a) → Parted g inner v w → LeavesRight lot inner a p v w
-  purge_parts_right {lot} lone v w a p eight counted at lt ours knows (inl h) = purged_so v w a p (behind_right lot v inner a p eight (owns_lone g lone v.pass a) ours counted at lt knows w h.leaves) (done_tabs g inner v counted w h.leaves)
-  purge_parts_right {lot} lone v w a p eight counted at lt ours knows (inr h) = purged_so v w a p (last_freed_right lot v inner a p eight (owns_lone g lone v.pass a) ours counted at lt knows lone h.middle w h.leaves h.freed) (freed_tabs g inner v counted (inr refl) h.middle w h.leaves h.freed)
+  purge_parts_right {lot} v w a p owns eight counted at lt ours knows (inl h) = purged_so v w a p (behind_right lot v inner a p eight (owns a lt ours) ours counted at lt knows w h.leaves) (done_tabs g inner v counted w h.leaves)
+  purge_parts_right {lot} v w a p owns eight counted at lt ours knows (inr h) = purged_so v w a p (last_freed_right lot v inner a p eight (owns a lt ours) ours counted at lt knows owns h.middle w h.leaves h.freed) (freed_tabs g inner v counted (inr refl) h.middle w h.leaves h.freed)
+
+  -- So it does where it wipes the entry, or leaves it to others.
+  pub wipe_parts_right : {lot : Lot} (v last w : View (List ℕ)) (a : ℕ) (p : Plain) (done : Bool) → OwnsLot g lot v.pass → length p.tabs ≡ 8 → is_counted (tab_at v inner) ≡ true → anchor_of (tab_at v inner) ≡ a → a < g.setting.anchors
+      → lot.anchors a ≡ true → KnowsLot g rename lot v p (guest_at a) → Leaves g v inner Left.MustFree last → WipedAndFreed g done last w → KnowsLot g rename lot w (settle a p) no_guests × (is_left_over_at p a ≡ true)
+  wipe_parts_right {lot} v last w a p done owns eight counted at lt ours knows leaves h = last_so lot v inner a p eight (owns a lt ours) ours counted at lt knows owns last w leaves
+      (λ there e. freed_behind h.blanked w a p eight ours (lot_stays g lot last h.blanked (wiped_pass g last h.blanked done h.wiped) there) h.freed (evicted_wiped g rename last h.blanked a p no_guests done there ours h.wiped e))
+
+  pub others_part_right : {lot : Lot} (v w : View (List ℕ)) (a : ℕ) (p : Plain) → OwnsLot g lot v.pass → length p.tabs ≡ 8 → is_counted (tab_at v inner) ≡ true → anchor_of (tab_at v inner) ≡ a → a < g.setting.anchors
+      → lot.anchors a ≡ true → KnowsLot g rename lot v p (guest_at a) → LeftInUse g inner v w ⊎ WasOvertaken g inner v w → KnowsLot g rename lot w (settle a p) no_guests × (is_left_over_at p a ≡ false)
+  others_part_right {lot} v w a p owns eight counted at lt ours knows why = others_right lot v inner a p eight (owns a lt ours) ours counted at lt knows w why
 
   -- A tab raised its entry to an end, and parts from it. It is last exactly where the entry is left over.
-  pub writer_parts_right : {lot : Lot} → IsLone g → (v w : View (List ℕ)) (t a : ℕ) (p : Plain) → length p.tabs ≡ 8 → a < g.setting.anchors → lot.anchors a ≡ true → KnowsLot g rename lot v p no_guests → is_last (tab_at v t) ≡ is_left_over_at p a
+  pub writer_parts_right : {lot : Lot} (v w : View (List ℕ)) (t a : ℕ) (p : Plain) → OwnsLot g lot v.pass → length p.tabs ≡ 8 → a < g.setting.anchors → lot.anchors a ≡ true → KnowsLot g rename lot v p no_guests → is_last (tab_at v t) ≡ is_left_over_at p a
       → (is_last (tab_at v t) ≡ true → (anchor_of (tab_at v t) ≡ a) × (last_find a v.trail ≡ has g v (Anchor a))) → WriterParted g t v w → KnowsLot g rename lot w (settle a p) no_guests
-  writer_parts_right {lot} lone v w t a p eight lt ours knows same last parted = by_parting parted.parting
+  writer_parts_right {lot} v w t a p owns eight lt ours knows same last parted = by_parting parted.parting
     where
+      mine : Mine g v (Anchor a)
+      mine = (owns a lt ours).words v (Anchor a) refl refl
+
       tried : (left : Left) (u : View (List ℕ)) → is_last (tab_at v t) ≡ true → (h : TriedToFree g v t left u) → Steps g v (Evict t a) h.found u
       tried left u was h = subst (λ (b : ℕ). Steps g v (Evict t b) h.found u) (last was).0 h.evict
 
       wins : (left : Left) (u : View (List ℕ)) → (was : is_last (tab_at v t) ≡ true) → (h : TriedToFree g v t left u) → h.found ≡ last_find (anchor_of (tab_at v t)) v.trail
-      wins left u was h = won_there v u t a h.found (mine_lone g lone v (Anchor a)) (tried left u was h) (last was).1 ∙ ap (λ b. last_find b v.trail) (sym (last was).0)
+      wins left u was h = won_there v u t a h.found mine (tried left u was h) (last was).1 ∙ ap (λ b. last_find b v.trail) (sym (last was).0)
 
       by_parting : Stayed g t v w ⊎ LeftToOther g t v w ⊎ FreedLast g t v w → KnowsLot g rename lot w (settle a p) no_guests
       by_parting (inl h) = subst (λ q. KnowsLot g rename lot w q no_guests) (sym (settle_stays p a (sym same ∙ h.used))) (subst (λ (z : View (List ℕ)). KnowsLot g rename lot z p no_guests) (sym h.same) knows)
       by_parting (inr (inl h)) = absurd (let e : Left.Done ≡ Left.MustFree = h.gives_up.won.1 (wins Left.Done w h.was h.gives_up) in cc)
-      by_parting (inr (inr h)) = last_right lone v h.middle w t a h.gives_up.found p eight ours knows (sym same ∙ h.was) (tried Left.MustFree h.middle h.was h.gives_up)
-          (won_there v h.middle t a h.gives_up.found (mine_lone g lone v (Anchor a)) (tried Left.MustFree h.middle h.was h.gives_up) (last h.was).1) h.freed
+      by_parting (inr (inr h)) = last_right v h.middle w t a h.gives_up.found p owns eight ours knows (sym same ∙ h.was) (tried Left.MustFree h.middle h.was h.gives_up)
+          (won_there v h.middle t a h.gives_up.found mine (tried Left.MustFree h.middle h.was h.gives_up) (last h.was).1) h.freed
 
   -- the same, of the tab that a step to CLOSED or HALTED left
-  pub raised_parts_right : {lot : Lot} → IsLone g → (u v w : View (List ℕ)) (t a n : ℕ) (to : Stage) (x : Writer (List ℕ)) (p : Plain) → length p.tabs ≡ 8 → Steps g u (Raise t to) n v → (to ≡ stage.Closed) ⊎ (to ≡ stage.Halted) → tab_at u t ≡ Writing x
+  pub raised_parts_right : {lot : Lot} (u v w : View (List ℕ)) (t a n : ℕ) (to : Stage) (x : Writer (List ℕ)) (p : Plain) → OwnsLot g lot v.pass → length p.tabs ≡ 8 → Steps g u (Raise t to) n v → (to ≡ stage.Closed) ⊎ (to ≡ stage.Halted) → tab_at u t ≡ Writing x
       → x.anchor ≡ a → a < g.setting.anchors → lot.anchors a ≡ true → KnowsLot g rename lot v p no_guests → WriterParted g t v w → KnowsLot g rename lot w (settle a p) no_guests
-  raised_parts_right {lot} lone u v w t a n to x p eight st ended is at lt ours knows parted = writer_parts_right lone v w t a p eight lt ours knows
+  raised_parts_right {lot} u v w t a n to x p owns eight st ended is at lt ours knows parted = writer_parts_right v w t a p owns eight lt ours knows
       (ap is_last tab ∙ last_if (is_left_over left) ∙ over) (λ was. (ap anchor_of tab ∙ anchor_if (is_left_over left) (sym (last_if (is_left_over left)) ∙ ap is_last (sym tab) ∙ was), find ∙ sym left_there)) parted
     where
       left : ℕ
@@ -273,7 +331,7 @@ module _ (g : Ground (List ℕ)) (rename : ℕ → ℕ) where
       anchor_if false e = absurd (false≢true e)
 
   -- Where no tab is the last user of an entry, none is left over.
-  pub none_left_over : {lot : Lot} (v : View (List ℕ)) (p : Plain) (a : ℕ) → OwnsAnchor g v.pass a → length p.tabs ≡ 8 → Stands g v → IsPass v → ((t b : ℕ) → tab_at v t ≡ Last b → ⊥) → a < g.setting.anchors → lot.anchors a ≡ true → KnowsLot g rename lot v p no_guests
+  pub none_left_over : {lot : Lot} (v : View (List ℕ)) (p : Plain) (a : ℕ) → OwnsAnchor g v.pass a → length p.tabs ≡ 8 → Stands g v → IsPass v → ((t : ℕ) → tab_at v t ≡ Last a → ⊥) → a < g.setting.anchors → lot.anchors a ≡ true → KnowsLot g rename lot v p no_guests
       → is_left_over_at p a ≡ false
   none_left_over v p a own eight st pass no_last lt ours knows = decide (is_left_over_at p a) refl
     where
@@ -283,7 +341,7 @@ module _ (g : Ground (List ℕ)) (rename : ℕ → ℕ) where
       none : is_left_over_at p a ≡ true → ⊥
       none e = let x = st.rule.sound.anchors.lasts a lt (over_there e) in
           let y = own.tabs v st x.i x.t (Last a) refl pass record { view = x.view; at = x.at; there = x.last } refl refl in
-          no_last x.t a (at_or v.tabs x.t (Last a) Free y.1)
+          no_last x.t (at_or v.tabs x.t (Last a) Free y.1)
 
       decide : (b : Bool) → is_left_over_at p a ≡ b → is_left_over_at p a ≡ false
       decide true e = absurd (none e)

@@ -12,6 +12,7 @@ pub mod Standing
 pub mod Ends
 pub mod Closings
 pub mod Runs
+pub mod LotRuns
 pub mod OwnAnchors
 pub mod Frames
 pub mod Chains
@@ -20,10 +21,12 @@ pub mod OwnVersions
 pub mod OtherTabs
 pub mod ShowingOthers
 pub mod Renamed
+pub mod ShownTabs
 pub mod ServedLines
 pub mod QuietSteps
 pub mod Freeing
 pub mod LeftAnchors
+pub mod Wiping
 pub mod LeftTabs
 pub mod Totals
 pub mod Holding
@@ -32,9 +35,11 @@ pub mod Rounds
 pub mod Evicting
 pub mod Claims
 pub mod Beginning
+pub mod Renamings
 pub mod BeginLines
 pub mod Growth
 pub mod Published
+pub mod Roomed
 pub mod Reserving
 pub mod Publishing
 pub mod Flushing
@@ -44,6 +49,9 @@ pub mod Ending
 pub mod Stopping
 pub mod Giving
 pub mod Putting
+pub mod LotRequests
+pub mod LotLines
+pub mod LotCourses
 pub mod WritingLines
 pub mod Bodies
 pub mod Judging
@@ -54,4 +62,5 @@ pub mod InnerTabs
 pub mod Opening
 pub mod GetLines
 pub mod PurgeLines
+pub mod LeavingLots
 pub mod Served

@@ -33,7 +33,7 @@ use Rattle.plain_runs.proofs.Frames.{knows_same}
 use Rattle.plain_runs.specs.Runs.{ShowsPlain}
 
 -- what a pass has of a word stays where it learns, by an item that is of no link
-has_still : {X : Type 0} → (g : Ground X) (v : View X) (sights : List Sight) (item : Item) → TellsNoLink item.kind → (q : Place) → has g (learns v sights item) q ≡ has g v q
+pub has_still : {X : Type 0} → (g : Ground X) (v : View X) (sights : List Sight) (item : Item) → TellsNoLink item.kind → (q : Place) → has g (learns v sights item) q ≡ has g v q
 has_still g v sights item quiet (Link slot) =
     ap (λ (z : Bool). cond z 0 (mirrored g.setting (index g.setting (Link slot)) v.mirror)) same
   where
@@ -58,7 +58,7 @@ module _ {C O : Type 0} (tells : Bool) (state : C → CellState) (offers : O →
     free_still t free = same_tab t ∙ free
 
     -- no tab has changed, so each tab below the inner one is another than this
-    leaves_all : is_free (tab_at (view p) inner) ≡ true → Leaves tells state offers s 9 p q
+    pub leaves_all : is_free (tab_at (view p) inner) ≡ true → Leaves tells state offers s 9 p q
     leaves_all free = record {
       own = more.keeps.own;
       inner_free = ap is_free (same_tab inner) ∙ free;
@@ -116,6 +116,7 @@ module _ {C O : Type 0} (tells : Bool) (state : C → CellState) (offers : O →
         hand = (cc (more.keeps.hand, shows.hand));
         eight = shows.eight;
         tabs = λ t lt own. tab_still t lt (plain_tab plain t) (shows.tabs t lt own);
+        within = shows.within;
         away = λ t lt no. absurd (false≢true (sym no));
       }
         where

@@ -27,7 +27,9 @@ use Rattle.store_rule.specs.Setting.{image_in, shown}
 use Rattle.rock_open.specs.Opening.{IsStoreOver}
 use Rattle.rock_reader.specs.Responses.{HoldsFile}
 use Rattle.plain_runs.specs.Shows.{ShowsTab}
-use Rattle.plain_runs.specs.Words.{Knows, no_guests}
+use Rattle.plain_model.specs.Store.{tab_at as plain_tab}
+use Rattle.plain_runs.specs.Words.{Knows, no_guests, whole_lot}
+use Rattle.plain_runs.proofs.ShowingOthers.{within_free}
 use Rattle.plain_runs.specs.Ends.{HasVersions, TellsPieces}
 use Rattle.plain_runs.specs.Runs.{ShowsPlain}
 use Rattle.plain_runs.proofs.AtAnchors.{OneKept, knows_opened, versions_there}
@@ -127,6 +129,7 @@ module _ {C O : Type 0} (tells : Bool) (state : C → CellState) (offers : O →
         hand = ap (λ (n : ℕ). cond (nat_lt n g.setting.anchors) n 0) new.hand ∙ first_hand (nat_lt 0 g.setting.anchors);
         eight = refl;
         tabs = λ t lt own. subst (ShowsTab tells state offers s (λ v. v) p first t) (sym (free_tab 8 t)) (new_free t);
+        within = λ t lt own. within_free whole_lot (plain_tab first t) (free_tab 8 t);
         away = λ t lt no. absurd (false≢true (sym no));
       }
 

@@ -1,7 +1,7 @@
 -- Anchors that are a pass's own: nobody else changes what stands there, so the pass knows it. In a store with one pass all of them are.
 use mathlib.Core.Option.{some}
 use lib.ListN.{get_elem?}
-use Rattle.std.proofs.Common.{List, ap, false, refl, sym, ◌<◌, ◌∙◌, ◌≡◌, ◌≤◌, ℕ}
+use Rattle.std.proofs.Common.{List, ap, false, refl, subst, sym, true, ◌<◌, ◌∙◌, ◌≡◌, ◌≤◌, ℕ}
 use Rattle.lock_word.specs.Words.{epoch_of, stage_of}
 use Rattle.core_model.specs.Chains.{IsSpelled, start_number}
 use Rattle.core_model.specs.Layout.{IsPlace, index, word_in}
@@ -22,7 +22,7 @@ use Rattle.store_rule.specs.Words.{Mine, has}
 use Rattle.core_model.proofs.SpelledOnce.{spelled_once}
 use Rattle.core_model.proofs.Telling.{told_in}
 use Rattle.store_rule.proofs.MyWords.{found_mine, mine_lone as one_owns}
-use Rattle.plain_runs.specs.Words.{HasChain, IsLone, link_known}
+use Rattle.plain_runs.specs.Words.{HasChain, IsLone, Lot, link_known}
 use Rattle.plain_runs.proofs.Chains.{chain_spelled, chain_starts, only_tabs, word_is}
 
 -- The word of the anchor, or one beside it.
@@ -70,6 +70,18 @@ owns_lone g lone pass a = record {
   tabs = λ v st j t tab same nine is used at. only_tabs g lone st.state st.index v st.rule st.at nine j t tab is;
   spelled = λ v st same nine lt starts. chain_spelled g lone st.state st.index v st.rule st.at nine a lt starts;
 }
+
+-- Each anchor of the lot is the own one of the pass with this number.
+abbrev pub OwnsLot : Ground (List ℕ) → Lot → ℕ → Type 0
+OwnsLot g lot pass = (a : ℕ) → a < g.setting.anchors → lot.anchors a ≡ true → OwnsAnchor g pass a
+
+-- it stays so while the pass keeps its number
+pub lot_stays : (g : Ground (List ℕ)) (lot : Lot) (v w : View (List ℕ)) → w.pass ≡ v.pass → OwnsLot g lot v.pass → OwnsLot g lot w.pass
+lot_stays g lot v w same owns = subst (OwnsLot g lot) (sym same) owns
+
+-- in a store with one pass so is any lot
+pub lot_lone : (g : Ground (List ℕ)) → IsLone g → (lot : Lot) (pass : ℕ) → OwnsLot g lot pass
+lot_lone g lone lot pass a lt ours = owns_lone g lone pass a
 
 -- What spells the chain of an entry at such an anchor of which slots are published spells the chain that stands there.
 pub own_chain : (g : Ground (List ℕ)) (v : View (List ℕ)) (a : ℕ) → OwnsAnchor g v.pass a → (st : Stands g v) → IsPass v

@@ -39,17 +39,17 @@ use Rattle.store_rule.specs.Told.{Stands, Steps}
 use Rattle.store_rule.specs.Turns.{IsReturned}
 use Rattle.store_rule.proofs.Moves.{known_of}
 use Rattle.store_rule.specs.Words.{Mine, has}
-use Rattle.plain_runs.proofs.OwnAnchors.{OwnsAnchor, own_chain, owns_lone, stands_before}
+use Rattle.plain_runs.proofs.OwnAnchors.{OwnsAnchor, OwnsLot, own_chain, stands_before}
 use Rattle.store_rule.proofs.AddingUp.{has_left}
 use Rattle.store_rule.proofs.MyWords.{found_mine, has_same}
 use Rattle.slice_chain.specs.Links.{Published, next_link}
 use Rattle.slice_chain.specs.Writes.{WroteSlot}
 use Rattle.rock_writer.proofs.Resting.{tab_now}
 use Rattle.rock_writer.proofs.Standing as standing
-use Rattle.plain_runs.specs.Words.{EndsSo, HasChain, HasNames, IsLone, ShowsAt, no_guests, setting_of, slots_published}
+use Rattle.plain_runs.specs.Words.{EndsSo, HasChain, HasNames, Lot, ShowsAt, no_guests, setting_of, slots_published}
 use Rattle.plain_runs.proofs.Chains as told
 use Rattle.plain_runs.proofs.Frames.{SameBut, same_on, same_weaker, step_same, step_same_turn, step_same_log}
-use Rattle.plain_runs.proofs.Freeing.{KnowsBut, SameElse, but_moved}
+use Rattle.plain_runs.proofs.Freeing.{KnowsLotBut, SameElse, but_moved}
 use Rattle.plain_runs.proofs.PlainWords.{readers_fit, stage_there}
 
 anchor_in : Place → ℕ
@@ -100,7 +100,7 @@ only_link a slot j (inr (inl e)) = cc
 only_link a slot j (inr (inr e)) = cc
 
 -- An entry of which a slot is published may be read, or was given up.
-stage_span : (room : ℕ) (life : Life) (content : ℕ) → slots_published room life content ≢ 0 → (2 ≤ stage_number (stage_of_entry room life content)) × (stage_number (stage_of_entry room life content) ≤ 4)
+pub stage_span : (room : ℕ) (life : Life) (content : ℕ) → slots_published room life content ≢ 0 → (2 ≤ stage_number (stage_of_entry room life content)) × (stage_number (stage_of_entry room life content) ≤ 4)
 stage_span room Growing content has_slots = let e = ne_eqb (published room content) 0 has_slots in
     let n : stage_number (stage_of_entry room Growing content) ≡ 2 = rw e refl in (omega arith, omega arith)
 stage_span room Whole content has_slots = (omega arith, omega arith)
@@ -115,7 +115,7 @@ module _ (g : Ground (List ℕ)) where
   anchor_there v t w st pass below is = standing.anchor_inside g v st t w (tab_there v t (Writing w) (let n = pass in let b = below in omega arith) is)
 
   -- a cell that comes back changes no word that the pass has
-  returned_has : (tab : Tab (List ℕ)) (t slot : ℕ) (c : Cell (List ℕ)) (v u : View (List ℕ)) → IsReturned g.setting tab t slot c v u → (q : Place) → has g u q ≡ has g v q
+  pub returned_has : (tab : Tab (List ℕ)) (t slot : ℕ) (c : Cell (List ℕ)) (v u : View (List ℕ)) → IsReturned g.setting tab t slot c v u → (q : Place) → has g u q ≡ has g v q
   returned_has (Writing w) t slot c v u h q = has_same g v u (ap View.mirror h.2) (ap View.trail h.2) q
   returned_has Free t slot c v u h q = ap (λ (z : View (List ℕ)). has g z q) h
   returned_has (Retreating a) t slot c v u h q = ap (λ (z : View (List ℕ)). has g z q) h
@@ -178,7 +178,7 @@ module _ (g : Ground (List ℕ)) where
       starts = sym (told_in g.setting.anchors w.anchor _ lt ∙ own.stands v st (Beside Start w.anchor) refl pass refl lt) ∙ (holds.names_are.start (start_number w.published) start ∙ ap (λ (z : Chain). start_number z.slots) (sym holds.chain))
 
   -- An entry of which no slot is published has no chain.
-  no_slots : (v : View (List ℕ)) (b : ℕ) (e : Entry) → (h : HasChain g v b e) → length h.slots ≡ 0 → (j : ℕ) → Contains (h.slots ++ slots_of_link h.end) j → ⊥
+  pub no_slots : (v : View (List ℕ)) (b : ℕ) (e : Entry) → (h : HasChain g v b e) → length h.slots ≡ 0 → (j : ℕ) → Contains (h.slots ++ slots_of_link h.end) j → ⊥
   no_slots v b e h none j c = by_list h.slots h.end none h.spelled.fits c
     where
       by_list : (xs : List ℕ) (end : LinkOf) → length xs ≡ 0 → Fits xs end → Contains (xs ++ slots_of_link end) j → ⊥
@@ -208,13 +208,13 @@ module _ (g : Ground (List ℕ)) where
         in_range some_slots = let span = stage_span (room_of g.slot) e.life e.content (λ z. some_slots (h.many ∙ z)) in let st = stage_here in (omega arith, omega arith)
 
     -- What a tab changes at its own anchor leaves all others alone.
-    pub touched_but : IsLone g → (v w : View (List ℕ)) (t slot : ℕ) (x : Writer (List ℕ)) (p q : Plain) → Stands g v → IsPass v → t < inner → tab_at v t ≡ Writing x → Contains x.reserved slot → SameBut g v w (Touched x.anchor slot)
-        → SameElse p q x.anchor → length p.tabs ≡ 8 → KnowsBut g rename v p no_guests x.anchor → KnowsBut g rename w q no_guests x.anchor
-    touched_but lone v w t slot x p q st pass below is reserved same other eight h = but_moved g rename v w (Touched x.anchor slot) p q no_guests x.anchor same other no_counter
+    pub touched_but : {lot : Lot} (v w : View (List ℕ)) (t slot : ℕ) (x : Writer (List ℕ)) (p q : Plain) → OwnsLot g lot v.pass → Stands g v → IsPass v → t < inner → tab_at v t ≡ Writing x → Contains x.reserved slot → SameBut g v w (Touched x.anchor slot)
+        → SameElse p q x.anchor → length p.tabs ≡ 8 → KnowsLotBut g rename lot v p no_guests x.anchor → KnowsLotBut g rename lot w q no_guests x.anchor
+    touched_but v w t slot x p q owns st pass below is reserved same other eight h = but_moved g rename v w (Touched x.anchor slot) p q no_guests x.anchor same other no_counter
         (λ b lt mine ne. record {
           word = λ c. ne (only_anchor x.anchor slot b c);
           sides = λ side c. ne (only_start x.anchor slot b side c).0;
-          links = λ e there chain j c k. reserved_apart v t x p 0 b (owns_lone g lone v.pass b) st pass below is lt (λ z. ne (sym z)) (h.each b lt mine ne) (readers_fit p b 0 eight (omega arith)) e there chain j c
+          links = λ e there chain j c k. reserved_apart v t x p 0 b (owns b lt mine) st pass below is lt (λ z. ne (sym z)) (h.each b lt mine ne) (readers_fit p b 0 eight (omega arith)) e there chain j c
               (subst (λ (z : ℕ). Contains x.reserved z) (sym (only_link x.anchor slot j k)) reserved);
         }) h
       where

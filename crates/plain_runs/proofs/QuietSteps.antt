@@ -76,14 +76,14 @@ module _ (g : Ground (List ℕ)) where
   step_quiet v w m n r st is only stays mine = found_quiet v w m n r st is only stays (found_mine g v w m n r st mine is)
 
   -- turns
-  try_quiet : (v w : View (List ℕ)) (t slot n : ℕ) → Steps g v (TryTurn t slot) n w → Quiet g v w
+  pub try_quiet : (v w : View (List ℕ)) (t slot n : ℕ) → Steps g v (TryTurn t slot) n w → Quiet g v w
   try_quiet v w t slot n st = step_same_turn g v w (TryTurn t slot) n slot st refl (try_inside g.setting st.state st.index v st.rule.sound st.at st.may.pass t slot st.may.allowed)
 
   lost_quiet : (t slot : ℕ) (v : View (List ℕ)) (us : List (View (List ℕ))) (w : View (List ℕ)) → Lost g t slot v us w → Quiet g v w
   lost_quiet t slot v [] w h = quiet_is v w h
   lost_quiet t slot v (u ∷ us) w h = quiet_on v u w (lost_quiet t slot v us u h.3) (try_quiet u w t slot h.0 h.1)
 
-  ended_quiet : (v w : View (List ℕ)) (t slot n : ℕ) (then : Then) → Steps g v (EndTurn t slot then) n w → Quiet g v w
+  pub ended_quiet : (v w : View (List ℕ)) (t slot n : ℕ) (then : Then) → Steps g v (EndTurn t slot then) n w → Quiet g v w
   ended_quiet v w t slot n then st = step_same_turn g v w (EndTurn t slot then) n slot st refl (end_inside g.setting st.state st.index v st.rule.sound st.at st.may.pass t slot then st.may.allowed)
 
   pub read_quiet : (t : ℕ) (v : View (List ℕ)) (done : Bool) (cell : Cell (List ℕ)) (w : View (List ℕ)) → ReadSlot g t v done cell w → Quiet g v w

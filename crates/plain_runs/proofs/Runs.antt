@@ -43,7 +43,7 @@ use Rattle.plain_runs.proofs.Opened.{HoldsKept, as_many, has_versions, holds_fil
 use Rattle.plain_runs.specs.Runs.{IsPlainRun, Numbered, ShowsPlain, setting_over}
 
 -- where none is counted, none is so
-none_counted : {X : Type 0} (f : X → Bool) (xs : List X) → count_by f xs ≡ 0 → (x : X) → Contains xs x → f x ≡ false
+pub none_counted : {X : Type 0} (f : X → Bool) (xs : List X) → count_by f xs ≡ 0 → (x : X) → Contains xs x → f x ≡ false
 none_counted f [] none x c = absurd (let z = c.1 in omega arith)
 none_counted f (y ∷ xs) none x (zero, lt, e) = first (f y) refl
   where

@@ -29,13 +29,16 @@ use Rattle.worker_shelf.specs.Shelves.{LeavesFree, LeavesReader, LeavesWriter, L
 use Rattle.worker_shelf.specs.Typed.{IsTyped}
 use Rattle.crew_accounts.proofs.GivenBytes.{IsFromFront}
 use Rattle.plain_runs.specs.Shows.{Shows, ShowsTab}
-use Rattle.plain_runs.specs.Words.{IsLone, setting_of}
+use Rattle.plain_runs.specs.Words.{IsLone, setting_of, whole_lot}
 use Rattle.plain_runs.proofs.BeginLines.{begins_as}
 use Rattle.plain_runs.proofs.GetLines.{gets_as}
-use Rattle.plain_runs.proofs.ServedLines.{RequestsRight, free_not_reading, free_not_writing, reads_not_free, reads_not_writing, request_right, writes_not_free, writes_not_reading}
+use Rattle.plain_runs.proofs.LeavingLots.{leaves_lot}
+use Rattle.plain_runs.proofs.ServedLines.{RequestsRight, request_right}
+use Rattle.plain_runs.proofs.ShownTabs.{free_not_reading, free_not_writing, reads_not_free, reads_not_writing, writes_not_free, writes_not_reading}
 use Rattle.plain_runs.proofs.Opening.{closes_as, mores_as, opens_as}
 use Rattle.plain_runs.proofs.OtherTabs.{IsOwn, close_else, give_up_keeps}
-use Rattle.plain_runs.proofs.PurgeLines.{purges_as}
+use Rattle.plain_runs.proofs.PurgeLines.{purges_as, wipes_as}
+use Rattle.plain_runs.proofs.OwnAnchors.{lot_lone}
 use Rattle.plain_runs.proofs.ShowingOthers.{OneBegins, shows_after}
 use Rattle.plain_runs.proofs.WritingLines.{adds_as, drops_as, ends_as, puts_as}
 
@@ -53,6 +56,7 @@ module _ {C O : Type 0} (tells : Bool) (state : C → CellState) (offers : O →
       closes = λ t anchor given is_other p q a plain below h reads met. closes_as tells state offers s lone t anchor given is_other p q a plain below h reads met.stays met;
       gets = λ url p q a plain h free typed fair met. gets_as tells state offers s lone begins known file from sized url p q a plain h free typed fair met.stays met;
       purges = λ url p q a plain h free typed met. purges_as tells state offers s lone url p q a plain h free typed met.stays met;
+      wipes = λ url p q a plain h free typed fair met. wipes_as tells state offers s lone url p q a plain h free typed fair met.stays met;
     }
       where
         read_stays : (t anchor given : ℕ) (is_other : Bool) (p q : Pass C) (a : Answer) (plain : Plain) → t < 8 → Shows tells state offers s (λ v. v) p plain → tab_at plain t ≡ Reading anchor given is_other
@@ -67,57 +71,5 @@ module _ {C O : Type 0} (tells : Bool) (state : C → CellState) (offers : O →
         request_right tells state offers s right script line.number p q a plain h whole fair typed begins stays lone line.request takes.asks served.request served.leaves
 
   -- A tab that is left is left as by the plain store.
-  module _ (t : ℕ) (p q : Pass C) (plain : Plain) (below : t < whole_tab) (left : LeftTab tells state offers s t p q) (h : Shows tells state offers s (λ v. v) p plain) where
-    eighth : t < 8
-    eighth = omega (arith, below)
-
-    closed : (anchor given : ℕ) (is_other : Bool) → tab_at plain t ≡ Reading anchor given is_other → Parted (basis tells state offers s) t (view p) (view q) → Shows tells state offers s (λ v. v) q (leave t plain)
-    closed anchor given is_other is parted = subst (λ (x : Plain). Shows tells state offers s (λ v. v) q x) (sym leaves_so)
-        (shows_after tells state offers s (λ v. v) begins stays lone p q plain (close t plain).after t h left.leaves (close_else t (IsOwn t plain) (setting_of (basis tells state offers s)) plain)
-        (closes_as tells state offers s lone t anchor given is_other p q answer.Closed plain eighth h is left.stays record { answer_is = refl; parted = parted; free = left.free; stays = left.stays }).shows eighth)
-      where
-        closes_so : (close t plain).after ≡ settle anchor (with_tab plain t Free)
-        closes_so = rw is refl
-
-        leave_so : leave t plain ≡ settle anchor (with_tab plain t Free)
-        leave_so = rw is closes_so
-
-        leaves_so : leave t plain ≡ (close t plain).after
-        leaves_so = leave_so ∙ sym closes_so
-
-    dropped : (anchor : ℕ) → tab_at plain t ≡ Writing anchor → Halts (basis tells state offers s) t (view p) (view q) → Shows tells state offers s (λ v. v) q (leave t plain)
-    dropped anchor is halts = subst (λ (x : Plain). Shows tells state offers s (λ v. v) q x) (sym leaves_so)
-        (shows_after tells state offers s (λ v. v) begins stays lone p q plain (give_up t plain).after t h left.leaves (give_up_keeps t (setting_of (basis tells state offers s)) plain)
-        (drops_as tells state offers s lone t anchor p q answer.Dropped plain eighth h is left.stays record { answer_is = refl; halts = halts; stays = left.stays }).shows eighth)
-      where
-        gives_up_so : (give_up t plain).after ≡ close_writer GivenUp t anchor plain
-        gives_up_so = rw is refl
-
-        leave_so : leave t plain ≡ close_writer GivenUp t anchor plain
-        leave_so = rw is gives_up_so
-
-        leaves_so : leave t plain ≡ (give_up t plain).after
-        leaves_so = leave_so ∙ sym gives_up_so
-
-    stayed : tab_at plain t ≡ Free → q ≡ p → Shows tells state offers s (λ v. v) q (leave t plain)
-    stayed is same = subst (λ (x : Plain). Shows tells state offers s (λ v. v) q x) (sym leaves_so) (subst (λ (x : Pass C). Shows tells state offers s (λ v. v) x plain) (sym same) h)
-      where
-        leaves_so : leave t plain ≡ plain
-        leaves_so = rw is refl
-
-    pub leaves_right : Shows tells state offers s (λ v. v) q (leave t plain)
-    leaves_right = of_tab (tab_at plain t) refl left.how
-      where
-        shown : {x : Tab} → tab_at plain t ≡ x → ShowsTab tells state offers s (λ v. v) p plain t x
-        shown is = subst (ShowsTab tells state offers s (λ v. v) p plain t) is (h.tabs t eighth refl)
-
-        of_tab : (x : Tab) → tab_at plain t ≡ x → LeavesFree tells state offers s t p q ⊎ LeavesReader tells state offers s t p q ⊎ LeavesWriter tells state offers s t p q → Shows tells state offers s (λ v. v) q (leave t plain)
-        of_tab Free is (inl free) = stayed is free.1
-        of_tab Free is (inr (inl reads)) = absurd (free_not_reading tells state offers s p plain h t eighth (shown is) reads.0)
-        of_tab Free is (inr (inr writes)) = absurd (free_not_writing tells state offers s p plain h t eighth (shown is) writes.0)
-        of_tab (Writing anchor) is (inl free) = absurd (writes_not_free tells state offers s p plain h t eighth anchor (shown is) free.0)
-        of_tab (Writing anchor) is (inr (inl reads)) = absurd (writes_not_reading tells state offers s p plain h t eighth anchor (shown is) reads.0)
-        of_tab (Writing anchor) is (inr (inr writes)) = dropped anchor is writes.1
-        of_tab (Reading anchor given is_other) is (inl free) = absurd (reads_not_free tells state offers s p plain h t eighth anchor given is_other (shown is) free.0)
-        of_tab (Reading anchor given is_other) is (inr (inl reads)) = closed anchor given is_other is reads.1
-        of_tab (Reading anchor given is_other) is (inr (inr writes)) = absurd (reads_not_writing tells state offers s p plain h t eighth anchor given is_other (shown is) writes.0)
+  pub leaves_right : (t : ℕ) (p q : Pass C) (plain : Plain) → t < whole_tab → LeftTab tells state offers s t p q → Shows tells state offers s (λ v. v) p plain → Shows tells state offers s (λ v. v) q (leave t plain)
+  leaves_right t p q plain below left h = leaves_lot tells state offers s begins stays (λ v. v) whole_lot t p q plain below (lot_lone (basis tells state offers s) lone whole_lot (view p).pass) refl left h

@@ -9,7 +9,7 @@ use Rattle.script_text.specs.declared.answer.Answer.TheVariants as answer
 use Rattle.script_text.specs.declared.body.Body.{Body}
 use Rattle.script_text.specs.declared.line.Line.{Line}
 use Rattle.script_text.specs.declared.request.Request.{Request}
-use Rattle.script_text.specs.declared.request.Request.TheVariants.{Add, Await, Begin, CloseTab, DropTab, End, Get, Mark, More, OpenTab, Purge, Put, Save}
+use Rattle.script_text.specs.declared.request.Request.TheVariants.{Add, Await, Begin, CloseTab, DropTab, End, Get, Mark, More, OpenTab, Purge, Put, Save, Wipe}
 use Rattle.core_model.specs.Tabs.{inner, tab_at as view_tab}
 use Rattle.core_model.specs.declared.tab.Tab.TheVariants as tab
 use Rattle.plain_model.specs.declared.store.Plain.{Plain}
@@ -18,7 +18,7 @@ use Rattle.plain_model.specs.declared.store.Tab.{Tab}
 use Rattle.plain_model.specs.declared.store.Tab.TheVariants.{Free, Reading, Writing}
 use Rattle.plain_model.specs.Store.{tab_at}
 use Rattle.plain_model.specs.Writing.{Step, add, begin, end, give_up, step}
-use Rattle.plain_model.specs.Reading.{close, more, open_tab, purge}
+use Rattle.plain_model.specs.Reading.{close, more, open_tab, purge, wipe}
 use Rattle.plain_model.specs.Serving.{bytes_of, get, leave, put, serve}
 use Rattle.store_rule.specs.declared.store.Pass.{Pass}
 use Rattle.store_rule.specs.declared.store.Store.{Store}
@@ -33,14 +33,17 @@ use Rattle.store_serve.specs.Answers.{is_fault}
 use Rattle.store_serve.specs.Reading.{Closes, Opens, ReadsOn}
 use Rattle.store_serve.specs.Serving.{MayAsk, Serves, ServesRequest, Takes, offer_of}
 use Rattle.store_serve.specs.Tabs.{IsFree, IsMet, IsOffered, IsReading, IsTurnedAway, IsWriting, Leaves}
-use Rattle.store_serve.specs.Whole.{Gets, Purges, Puts, whole_tab}
+use Rattle.store_serve.specs.Whole.{Gets, Purges, Puts, Wipes, whole_tab}
 use Rattle.store_serve.specs.Writing.{AddsTo, Begins, Drops, EndsEntry}
 use Rattle.worker_shelf.proofs.Holding.{Stays}
 use Rattle.worker_shelf.specs.Typed.{IsTyped}
-use Rattle.plain_runs.specs.Words.{IsLone, setting_of}
+use Rattle.plain_runs.specs.Words.{IsLone, setting_of, whole_lot}
 use Rattle.plain_runs.specs.Shows.{Shows, ShowsReading, ShowsTab, ShowsWriting}
 use Rattle.plain_runs.proofs.OtherTabs.{IsOwn, KeepsElse, add_keeps, begin_keeps, close_else, end_keeps, get_else, give_up_keeps, more_else, open_else, purge_else, put_keeps}
-use Rattle.plain_runs.proofs.ShowingOthers.{OneBegins, ShowsOn, shows_after}
+use Rattle.plain_runs.proofs.OwnAnchors.{lot_lone}
+use Rattle.plain_runs.proofs.Renamed.{IsAs}
+use Rattle.plain_runs.proofs.ShownTabs.{of_free, of_reader, of_writer}
+use Rattle.plain_runs.proofs.ShowingOthers.{OneBegins, ShowsOn, shows_after, within_whole}
 
 module _ {C O : Type 0} (tells : Bool) (state : C → CellState) (offers : O → Offers) (s : Store C O) where
   abbrev g : Ground (List ℕ)
@@ -53,96 +56,52 @@ module _ {C O : Type 0} (tells : Bool) (state : C → CellState) (offers : O →
   abbrev ShowsPlain : Pass C → Plain → Type 0
   ShowsPlain p plain = Shows tells state offers s (λ v. v) p plain
 
-  -- The answer is that of the plain store's step, and the tab and all that the pass knows is what the step leaves.
-  pub record IsAs (a : Answer) (q : Pass C) (t : ℕ) (made : Step) : Type 0 where
-    pub answered : a ≡ made.answer
-    pub shows : ShowsOn tells state offers s (λ v. v) q made.after t
-
   -- What is known of requests that were met, each on a tab that the plain store has so.
   pub record RequestsRight : Type 0 where
     pub begins : (t offer : ℕ) (url : List ℕ) (body : Body) (p q : Pass C) (a : Answer) (plain : Plain) → t < 8 → ShowsPlain p plain → tab_at plain t ≡ Free → IsOffered tells state offers s offer url body → IsTyped a
-        → Begins tells state offers s t p a q offer url → IsAs a q t (begin setting t url (bytes_of body) offer plain)
+        → Begins tells state offers s t p a q offer url → IsAs tells state offers s a q t (begin setting t url (bytes_of body) offer plain)
     pub adds : (t count anchor : ℕ) (p q : Pass C) (a : Answer) (plain : Plain) → t < 8 → ShowsPlain p plain → tab_at plain t ≡ Writing anchor → is_fault a ≡ false
-        → ((e : Entry) → WritesAs tells state offers s p t e → AddsTo tells state offers s t p a q count e) → IsAs a q t (add setting t count plain)
+        → ((e : Entry) → WritesAs tells state offers s p t e → AddsTo tells state offers s t p a q count e) → IsAs tells state offers s a q t (add setting t count plain)
     pub ends : (t anchor : ℕ) (p q : Pass C) (a : Answer) (plain : Plain) → t < 8 → ShowsPlain p plain → tab_at plain t ≡ Writing anchor → is_fault a ≡ false
-        → ((e : Entry) → WritesAs tells state offers s p t e → EndsEntry tells state offers s t p a q e) → IsAs a q t (end setting t plain)
-    pub drops : (t anchor : ℕ) (p q : Pass C) (a : Answer) (plain : Plain) → t < 8 → ShowsPlain p plain → tab_at plain t ≡ Writing anchor → Drops tells state offers s t p a q → IsAs a q t (give_up t plain)
+        → ((e : Entry) → WritesAs tells state offers s p t e → EndsEntry tells state offers s t p a q e) → IsAs tells state offers s a q t (end setting t plain)
+    pub drops : (t anchor : ℕ) (p q : Pass C) (a : Answer) (plain : Plain) → t < 8 → ShowsPlain p plain → tab_at plain t ≡ Writing anchor → Drops tells state offers s t p a q → IsAs tells state offers s a q t (give_up t plain)
     pub puts : (offer : ℕ) (url : List ℕ) (body : Body) (durable : Bool) (p q : Pass C) (a : Answer) (plain : Plain) → ShowsPlain p plain → tab_at plain whole_tab ≡ Free → is_fault a ≡ false
-        → IsOffered tells state offers s offer url body → IsTyped a → Puts tells state offers s url p a q offer durable → IsAs a q whole_tab (put setting url (bytes_of body) offer plain)
-    pub opens : (t : ℕ) (url : List ℕ) (p q : Pass C) (a : Answer) (plain : Plain) → t < 8 → ShowsPlain p plain → tab_at plain t ≡ Free → IsTyped a → Opens tells state offers s t p a q url → IsAs a q t (open_tab setting t url plain)
+        → IsOffered tells state offers s offer url body → IsTyped a → Puts tells state offers s url p a q offer durable → IsAs tells state offers s a q whole_tab (put setting url (bytes_of body) offer plain)
+    pub opens : (t : ℕ) (url : List ℕ) (p q : Pass C) (a : Answer) (plain : Plain) → t < 8 → ShowsPlain p plain → tab_at plain t ≡ Free → IsTyped a → Opens tells state offers s t p a q url → IsAs tells state offers s a q t (open_tab setting t url plain)
     pub mores : (t anchor given : ℕ) (is_other : Bool) (p q : Pass C) (a : Answer) (plain : Plain) → t < 8 → ShowsPlain p plain → tab_at plain t ≡ Reading anchor given is_other → is_fault a ≡ false
-        → ((e : Standing) → ReadsAs tells state offers s p t e → ReadsOn tells state offers s t p a q e) → IsAs a q t (more setting t plain)
-    pub closes : (t anchor given : ℕ) (is_other : Bool) (p q : Pass C) (a : Answer) (plain : Plain) → t < 8 → ShowsPlain p plain → tab_at plain t ≡ Reading anchor given is_other → Closes tells state offers s t p a q → IsAs a q t (close t plain)
-    pub gets : (url : List ℕ) (p q : Pass C) (a : Answer) (plain : Plain) → ShowsPlain p plain → tab_at plain whole_tab ≡ Free → IsTyped a → is_fault a ≡ false → Gets tells state offers s url p a q → IsAs a q whole_tab (get setting url plain)
-    pub purges : (url : List ℕ) (p q : Pass C) (a : Answer) (plain : Plain) → ShowsPlain p plain → tab_at plain whole_tab ≡ Free → IsTyped a → Purges tells state offers s url p a q → IsAs a q whole_tab (purge setting url plain)
+        → ((e : Standing) → ReadsAs tells state offers s p t e → ReadsOn tells state offers s t p a q e) → IsAs tells state offers s a q t (more setting t plain)
+    pub closes : (t anchor given : ℕ) (is_other : Bool) (p q : Pass C) (a : Answer) (plain : Plain) → t < 8 → ShowsPlain p plain → tab_at plain t ≡ Reading anchor given is_other → Closes tells state offers s t p a q → IsAs tells state offers s a q t (close t plain)
+    pub gets : (url : List ℕ) (p q : Pass C) (a : Answer) (plain : Plain) → ShowsPlain p plain → tab_at plain whole_tab ≡ Free → IsTyped a → is_fault a ≡ false → Gets tells state offers s url p a q → IsAs tells state offers s a q whole_tab (get setting url plain)
+    pub purges : (url : List ℕ) (p q : Pass C) (a : Answer) (plain : Plain) → ShowsPlain p plain → tab_at plain whole_tab ≡ Free → IsTyped a → Purges tells state offers s url p a q → IsAs tells state offers s a q whole_tab (purge setting url plain)
+    pub wipes : (url : List ℕ) (p q : Pass C) (a : Answer) (plain : Plain) → ShowsPlain p plain → tab_at plain whole_tab ≡ Free → IsTyped a → is_fault a ≡ false → Wipes tells state offers s url p a q → IsAs tells state offers s a q whole_tab (wipe setting url plain)
 
-  -- What a tab of the pass is, the plain store has it as.
   module _ (p : Pass C) (plain : Plain) (h : ShowsPlain p plain) (t : ℕ) (below : t < 8) where
     shown : ShowsTab tells state offers s (λ v. v) p plain t (tab_at plain t)
     shown = h.tabs t below refl
 
-    pub writes_not_free : (a : ℕ) → ShowsWriting tells state offers s (λ v. v) p plain t a → IsFree p t → ⊥
-    writes_not_free a w free = let k = sym w.writes.rests.is ∙ free in cc
-
-    pub reads_not_free : (a given : ℕ) (is_other : Bool) → ShowsReading tells state offers s (λ v. v) p plain t a given is_other → IsFree p t → ⊥
-    reads_not_free a given is_other r free = let k = sym r.reads.is ∙ free in cc
-
-    pub reads_not_writing : (a given : ℕ) (is_other : Bool) → ShowsReading tells state offers s (λ v. v) p plain t a given is_other → IsWriting tells state offers s p t → ⊥
-    reads_not_writing a given is_other r w = let k = sym r.reads.is ∙ w.1.rests.is in cc
-
-    pub writes_not_reading : (a : ℕ) → ShowsWriting tells state offers s (λ v. v) p plain t a → IsReading tells state offers s p t → ⊥
-    writes_not_reading a w r = let k = sym r.1.is ∙ w.writes.rests.is in cc
-
-    pub free_not_writing : IsFree p t → IsWriting tells state offers s p t → ⊥
-    free_not_writing free w = let k = sym w.1.rests.is ∙ free in cc
-
-    pub free_not_reading : IsFree p t → IsReading tells state offers s p t → ⊥
-    free_not_reading free r = let k = sym r.1.is ∙ free in cc
-
     -- a tab that is turned away changed nothing
-    pub turned_away : (a : Answer) (q : Pass C) (made : Step) → IsTurnedAway p a q → made ≡ step answer.Tab plain → IsAs a q t made
+    turned_away : (a : Answer) (q : Pass C) (made : Step) → IsTurnedAway p a q → made ≡ step answer.Tab plain → IsAs tells state offers s a q t made
     turned_away a q made away is = record {
       answered = away.answered ∙ ap (λ (m : Step). m.answer) (sym is);
-      shows = subst (λ (x : Plain). ShowsOn tells state offers s (λ v. v) q x t) (ap (λ (m : Step). m.after) (sym is))
-          (subst (λ (x : Pass C). ShowsOn tells state offers s (λ v. v) x plain t) (sym away.still) record { knows = h.knows; hand = h.hand; tab = shown });
+      shows = subst (λ (x : Plain). ShowsOn tells state offers s (λ v. v) whole_lot q x t) (ap (λ (m : Step). m.after) (sym is))
+          (subst (λ (x : Pass C). ShowsOn tells state offers s (λ v. v) whole_lot x plain t) (sym away.still) record { knows = h.knows; hand = h.hand; tab = shown; within = within_whole (tab_at plain t) });
     }
 
     -- a request on a free tab, on one that writes, and on one that reads
-    pub on_free : (a : Answer) (q : Pass C) (made : Step) (Met : Type 0) → IsMet (IsFree p t) Met p a q → (tab_at plain t ≡ Free → Met → IsAs a q t made)
-        → ((at : ℕ) → tab_at plain t ≡ Writing at → made ≡ step answer.Tab plain) → ((at given : ℕ) (is_other : Bool) → tab_at plain t ≡ Reading at given is_other → made ≡ step answer.Tab plain) → IsAs a q t made
-    on_free a q made Met met right writes reads = of_tab (tab_at plain t) refl met.met
-      where
-        of_tab : (x : Tab) → tab_at plain t ≡ x → ((IsFree p t) × Met) ⊎ ((IsFree p t → ⊥) × IsTurnedAway p a q) → IsAs a q t made
-        of_tab Free is (inl m) = right is m.1
-        of_tab Free is (inr m) = absurd (m.0 (subst (ShowsTab tells state offers s (λ v. v) p plain t) is shown))
-        of_tab (Writing at) is (inl m) = absurd (writes_not_free at (subst (ShowsTab tells state offers s (λ v. v) p plain t) is shown) m.0)
-        of_tab (Writing at) is (inr m) = turned_away a q made m.1 (writes at is)
-        of_tab (Reading at given is_other) is (inl m) = absurd (reads_not_free at given is_other (subst (ShowsTab tells state offers s (λ v. v) p plain t) is shown) m.0)
-        of_tab (Reading at given is_other) is (inr m) = turned_away a q made m.1 (reads at given is_other is)
+    pub on_free : (a : Answer) (q : Pass C) (made : Step) (Met : Type 0) → IsMet (IsFree p t) Met p a q → (tab_at plain t ≡ Free → Met → IsAs tells state offers s a q t made)
+        → ((at : ℕ) → tab_at plain t ≡ Writing at → made ≡ step answer.Tab plain) → ((at given : ℕ) (is_other : Bool) → tab_at plain t ≡ Reading at given is_other → made ≡ step answer.Tab plain) → IsAs tells state offers s a q t made
+    on_free a q made Met met right writes reads = of_free tells state offers s (λ v. v) p plain t shown a q Met met right
+        (λ at is away. turned_away a q made away (writes at is)) (λ at given is_other is away. turned_away a q made away (reads at given is_other is))
 
-    pub on_writer : (a : Answer) (q : Pass C) (made : Step) (Met : Type 0) → IsMet (IsWriting tells state offers s p t) Met p a q → ((at : ℕ) → tab_at plain t ≡ Writing at → Met → IsAs a q t made)
-        → (tab_at plain t ≡ Free → made ≡ step answer.Tab plain) → ((at given : ℕ) (is_other : Bool) → tab_at plain t ≡ Reading at given is_other → made ≡ step answer.Tab plain) → IsAs a q t made
-    on_writer a q made Met met right free reads = of_tab (tab_at plain t) refl met.met
-      where
-        of_tab : (x : Tab) → tab_at plain t ≡ x → ((IsWriting tells state offers s p t) × Met) ⊎ ((IsWriting tells state offers s p t → ⊥) × IsTurnedAway p a q) → IsAs a q t made
-        of_tab Free is (inl m) = absurd (free_not_writing (subst (ShowsTab tells state offers s (λ v. v) p plain t) is shown) m.0)
-        of_tab Free is (inr m) = turned_away a q made m.1 (free is)
-        of_tab (Writing at) is (inl m) = right at is m.1
-        of_tab (Writing at) is (inr m) = let w = subst (ShowsTab tells state offers s (λ v. v) p plain t) is shown in absurd (m.0 (w.written, w.writes))
-        of_tab (Reading at given is_other) is (inl m) = absurd (reads_not_writing at given is_other (subst (ShowsTab tells state offers s (λ v. v) p plain t) is shown) m.0)
-        of_tab (Reading at given is_other) is (inr m) = turned_away a q made m.1 (reads at given is_other is)
+    pub on_writer : (a : Answer) (q : Pass C) (made : Step) (Met : Type 0) → IsMet (IsWriting tells state offers s p t) Met p a q → ((at : ℕ) → tab_at plain t ≡ Writing at → Met → IsAs tells state offers s a q t made)
+        → (tab_at plain t ≡ Free → made ≡ step answer.Tab plain) → ((at given : ℕ) (is_other : Bool) → tab_at plain t ≡ Reading at given is_other → made ≡ step answer.Tab plain) → IsAs tells state offers s a q t made
+    on_writer a q made Met met right free reads = of_writer tells state offers s (λ v. v) p plain t shown a q Met met right
+        (λ is away. turned_away a q made away (free is)) (λ at given is_other is away. turned_away a q made away (reads at given is_other is))
 
-    pub on_reader : (a : Answer) (q : Pass C) (made : Step) (Met : Type 0) → IsMet (IsReading tells state offers s p t) Met p a q → ((at given : ℕ) (is_other : Bool) → tab_at plain t ≡ Reading at given is_other → Met → IsAs a q t made)
-        → (tab_at plain t ≡ Free → made ≡ step answer.Tab plain) → ((at : ℕ) → tab_at plain t ≡ Writing at → made ≡ step answer.Tab plain) → IsAs a q t made
-    on_reader a q made Met met right free writes = of_tab (tab_at plain t) refl met.met
-      where
-        of_tab : (x : Tab) → tab_at plain t ≡ x → ((IsReading tells state offers s p t) × Met) ⊎ ((IsReading tells state offers s p t → ⊥) × IsTurnedAway p a q) → IsAs a q t made
-        of_tab Free is (inl m) = absurd (free_not_reading (subst (ShowsTab tells state offers s (λ v. v) p plain t) is shown) m.0)
-        of_tab Free is (inr m) = turned_away a q made m.1 (free is)
-        of_tab (Writing at) is (inl m) = absurd (writes_not_reading at (subst (ShowsTab tells state offers s (λ v. v) p plain t) is shown) m.0)
-        of_tab (Writing at) is (inr m) = turned_away a q made m.1 (writes at is)
-        of_tab (Reading at given is_other) is (inl m) = right at given is_other is m.1
-        of_tab (Reading at given is_other) is (inr m) = let r = subst (ShowsTab tells state offers s (λ v. v) p plain t) is shown in absurd (m.0 (r.standing, r.reads))
+    pub on_reader : (a : Answer) (q : Pass C) (made : Step) (Met : Type 0) → IsMet (IsReading tells state offers s p t) Met p a q → ((at given : ℕ) (is_other : Bool) → tab_at plain t ≡ Reading at given is_other → Met → IsAs tells state offers s a q t made)
+        → (tab_at plain t ≡ Free → made ≡ step answer.Tab plain) → ((at : ℕ) → tab_at plain t ≡ Writing at → made ≡ step answer.Tab plain) → IsAs tells state offers s a q t made
+    on_reader a q made Met met right free writes = of_reader tells state offers s (λ v. v) p plain t shown a q Met met right
+        (λ is away. turned_away a q made away (free is)) (λ at is away. turned_away a q made away (writes at is))
 
   -- The lines of all requests.
   module _ (right : RequestsRight) (script : List Line) (number : ℕ) (p q : Pass C) (a : Answer) (plain : Plain) (h : ShowsPlain p plain) (whole : tab_at plain whole_tab ≡ Free) (fair : is_fault a ≡ false) (typed : IsTyped a) where
@@ -151,8 +110,8 @@ module _ {C O : Type 0} (tells : Bool) (state : C → CellState) (offers : O →
     Goal made = (a ≡ made.answer) × ShowsPlain q made.after
 
     module _ (begins : OneBegins) (stays : Stays tells state offers s) (lone : IsLone g) where
-      after_all : (t : ℕ) (made : Step) → t < 8 → Leaves tells state offers s t p q → IsAs a q t made → KeepsElse t (IsOwn t plain) plain made.after → Goal made
-      after_all t made below leaves is keeps = (is.answered, shows_after tells state offers s (λ v. v) begins stays lone p q plain made.after t h leaves keeps is.shows below)
+      after_all : (t : ℕ) (made : Step) → t < 8 → Leaves tells state offers s t p q → IsAs tells state offers s a q t made → KeepsElse t (IsOwn t plain) plain made.after → Goal made
+      after_all t made below leaves is keeps = (is.answered, shows_after tells state offers s (λ v. v) begins stays whole_lot p q plain made.after t (lot_lone g lone whole_lot (view p).pass) h leaves keeps is.shows below refl)
 
       abbrev offer : ℕ
       offer = offer_of tells state offers s number
@@ -163,6 +122,7 @@ module _ {C O : Type 0} (tells : Bool) (state : C → CellState) (offers : O →
       request_right (Save url body) asks served leaves = after_all 7 _ (omega arith) (leaves 7 refl) (right.puts offer url body true p q a plain h whole fair asks typed served) (put_keeps setting plain url (bytes_of body) offer)
       request_right (Get url) asks served leaves = after_all 7 _ (omega arith) (leaves 7 refl) (right.gets url p q a plain h whole typed fair served) (get_else setting plain (IsOwn 7 plain) url)
       request_right (Purge url) asks served leaves = after_all 7 _ (omega arith) (leaves 7 refl) (right.purges url p q a plain h whole typed served) (purge_else 7 (IsOwn 7 plain) setting plain url)
+      request_right (Wipe url) asks served leaves = after_all 7 _ (omega arith) (leaves 7 refl) (right.wipes url p q a plain h whole typed fair served) (purge_else 7 (IsOwn 7 plain) setting plain url)
       request_right (Begin t url body) asks served leaves = let below : t < 8 = let b = asks.0 in omega arith in after_all t _ below (leaves t refl)
           (on_free p plain h t below a q _ (Begins tells state offers s t p a q offer url) served (λ free met. right.begins t offer url body p q a plain below h free asks.1 typed met) (λ at is. rw is refl) (λ at given is_other is. rw is refl))
           (begin_keeps setting plain t url (bytes_of body) offer)

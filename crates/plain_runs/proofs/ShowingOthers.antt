@@ -15,6 +15,8 @@ use Rattle.core_model.specs.Anchors.{IsReadAt}
 use Rattle.core_model.specs.Layout.{word_in}
 use Rattle.core_model.specs.State.{word}
 use Rattle.core_model.specs.declared.moves.Side.TheVariants.{Offer}
+use Rattle.core_model.specs.Tabs as core
+use Rattle.core_model.specs.declared.tab.Tab as core_tab
 use Rattle.core_model.specs.declared.tab.Tab.TheVariants as tab
 use Rattle.core_model.specs.declared.view.Place.TheVariants as place
 use Rattle.core_model.proofs.Matching.{one_writer}
@@ -36,10 +38,10 @@ use Rattle.rock_reader.specs.Reading.{ReadsAs, Standing}
 use Rattle.rock_reader.specs.Responses.{IsOpened, IsResponse, body_below}
 use Rattle.store_serve.specs.Tabs.{Leaves}
 use Rattle.worker_shelf.proofs.Holding.{Stays}
-use Rattle.plain_runs.specs.Words.{IsLone, IsOfOffer, Knows, ShowsEntry, ShowsEntryIf, no_guests, setting_of}
-use Rattle.plain_runs.specs.Shows.{Shows, ShowsReading, ShowsTab, ShowsWriting}
+use Rattle.plain_runs.specs.Words.{IsOfOffer, KnowsLot, Lot, ShowsEntry, ShowsEntryIf, no_guests, setting_of, whole_lot}
+use Rattle.plain_runs.specs.Shows.{IsWithin, ShowsLot, ShowsReading, ShowsTab, ShowsWriting}
 use Rattle.core_model.proofs.Tabs.{tab_there}
-use Rattle.plain_runs.proofs.OwnAnchors.{OwnsAnchor, owns_lone}
+use Rattle.plain_runs.proofs.OwnAnchors.{OwnsAnchor, OwnsLot, lot_stays}
 use Rattle.plain_runs.proofs.OtherTabs.{IsOwn, KeepsElse}
 use Rattle.plain_runs.proofs.PlainWords.{readers_fit, stage_there, version_there}
 
@@ -61,19 +63,29 @@ module _ (begins : OneBegins) (g : Ground (List ℕ)) (a offer : ℕ) where
       of_file x y = sym x.url_is ∙ ap (λ (e : FileEntry). e.url) (begins g.slot g.setting.contents x.entry y.entry x.complete y.complete
           (firsts (sym x.complete.chain.begins ∙ (x.chain_is ∙ sym y.chain_is) ∙ y.complete.chain.begins))) ∙ y.url_is
 
+-- In the whole store no tab is outside, and one that is free is nowhere.
+pub within_whole : (x : Tab) → IsWithin whole_lot x
+within_whole Free = tt
+within_whole (Writing a) = refl
+within_whole (Reading a given is_other) = refl
+
+pub within_free : (lot : Lot) (x : Tab) → x ≡ Free → IsWithin lot x
+within_free lot x is = subst (IsWithin lot) (sym is) tt
+
 module _ {C O : Type 0} (tells : Bool) (state : C → CellState) (offers : O → Offers) (s : Store C O) (rename : ℕ → ℕ) where
-  -- What a request on one tab has to say: what the pass knows, where its hand is, and what the tab is. The other tabs are shown then.
-  pub record ShowsOn (q : Pass C) (p' : Plain) (t : ℕ) : Type 0 where
-    pub knows : Knows (basis tells state offers s) rename (view q) p' no_guests
+  -- What a request on one tab has to say of a lot: what the pass knows, where its hand is, and what the tab is. The other tabs are shown then.
+  pub record ShowsOn (lot : Lot) (q : Pass C) (p' : Plain) (t : ℕ) : Type 0 where
+    pub knows : KnowsLot (basis tells state offers s) rename lot (view q) p' no_guests
     pub hand : hand_in (basis tells state offers s).setting.anchors q.hand ≡ p'.hand
     pub tab : ShowsTab tells state offers s rename q p' t (tab_at p' t)
+    pub within : IsWithin lot (tab_at p' t)
 
 module _ {C O : Type 0} (tells : Bool) (state : C → CellState) (offers : O → Offers) (s : Store C O) (rename : ℕ → ℕ) (begins : OneBegins) (stays : Stays tells state offers s) where
   abbrev g : Ground (List ℕ)
   g = basis tells state offers s
 
   -- an anchor where an entry may be read or was given up has one, in the plain store
-  module _ (q : Pass C) (p' : Plain) (own : IsOf tells state offers s q) (knows : Knows g rename (view q) p' no_guests) (eight : length p'.tabs ≡ 8) where
+  module _ (lot : Lot) (q : Pass C) (p' : Plain) (own : IsOf tells state offers s q) (knows : KnowsLot g rename lot (view q) p' no_guests) (eight : length p'.tabs ≡ 8) where
     abbrev st : Stands g (view q)
     st = own.stands
 
@@ -83,14 +95,14 @@ module _ {C O : Type 0} (tells : Bool) (state : C → CellState) (offers : O →
     anchor_word : (a : ℕ) → OwnsAnchor g (view q).pass a → a < g.setting.anchors → word st.state a ≡ has g (view q) (place.Anchor a)
     anchor_word a owns lt = owns.stands (view q) st (place.Anchor a) refl (pass_of q) refl lt
 
-    stage_known : (a : ℕ) → OwnsAnchor g (view q).pass a → a < g.setting.anchors → stage_of (epoch_of (word st.state a)) ≡ stage_number (stage_in (setting_of g).room (place_at p' a).version (entry_at p' a))
-    stage_known a owns lt = stage_there rename (setting_of g) p' 0 a (word st.state a) (anchor_word a owns lt ∙ (knows.each a lt refl).word) (few a)
+    stage_known : (a : ℕ) → OwnsAnchor g (view q).pass a → a < g.setting.anchors → lot.anchors a ≡ true → stage_of (epoch_of (word st.state a)) ≡ stage_number (stage_in (setting_of g).room (place_at p' a).version (entry_at p' a))
+    stage_known a owns lt ours = stage_there rename (setting_of g) p' 0 a (word st.state a) (anchor_word a owns lt ∙ (knows.each a lt ours).word) (few a)
 
-    version_known : (a : ℕ) → OwnsAnchor g (view q).pass a → a < g.setting.anchors → version_of (epoch_of (word st.state a)) ≡ rename (place_at p' a).version
-    version_known a owns lt = version_there rename (setting_of g) p' 0 a (word st.state a) (anchor_word a owns lt ∙ (knows.each a lt refl).word) (few a)
+    version_known : (a : ℕ) → OwnsAnchor g (view q).pass a → a < g.setting.anchors → lot.anchors a ≡ true → version_of (epoch_of (word st.state a)) ≡ rename (place_at p' a).version
+    version_known a owns lt ours = version_there rename (setting_of g) p' 0 a (word st.state a) (anchor_word a owns lt ∙ (knows.each a lt ours).word) (few a)
 
-    pub some_entry : (a : ℕ) → OwnsAnchor g (view q).pass a → a < g.setting.anchors → 2 ≤ stage_of (epoch_of (word st.state a)) → stage_of (epoch_of (word st.state a)) ≤ 4 → (e : Entry) × (entry_at p' a ≡ Some e) × ShowsEntry g (view q) a (place_at p' a).version e
-    some_entry a owns lt least most = of_entry (entry_at p' a) refl ((knows.each a lt refl).entry)
+    pub some_entry : (a : ℕ) → OwnsAnchor g (view q).pass a → a < g.setting.anchors → lot.anchors a ≡ true → 2 ≤ stage_of (epoch_of (word st.state a)) → stage_of (epoch_of (word st.state a)) ≤ 4 → (e : Entry) × (entry_at p' a ≡ Some e) × ShowsEntry g (view q) a (place_at p' a).version e
+    some_entry a owns lt ours least most = of_entry (entry_at p' a) refl ((knows.each a lt ours).entry)
       where
         no_stage : (version : ℕ) → stage_number (stage_in (setting_of g).room version None) ≢ 0 → 5 ≤ stage_number (stage_in (setting_of g).room version None)
         no_stage version ne = dite (ℕ_discrete version 0) (λ e. absurd (ne (empty e))) (λ other. gone other)
@@ -103,14 +115,14 @@ module _ {C O : Type 0} (tells : Bool) (state : C → CellState) (offers : O →
 
         of_entry : (o : Option Entry) → entry_at p' a ≡ o → ShowsEntryIf g (view q) a (place_at p' a).version (entry_at p' a) → (e : Entry) × (entry_at p' a ≡ Some e) × ShowsEntry g (view q) a (place_at p' a).version e
         of_entry (Some e) is h = (e, is, subst (ShowsEntryIf g (view q) a (place_at p' a).version) is h)
-        of_entry None is h = absurd (let k : stage_of (epoch_of (word st.state a)) ≡ stage_number (stage_in (setting_of g).room (place_at p' a).version None) = stage_known a owns lt ∙ ap (λ (o : Option Entry). stage_number (stage_in (setting_of g).room (place_at p' a).version o)) is in
+        of_entry None is h = absurd (let k : stage_of (epoch_of (word st.state a)) ≡ stage_number (stage_in (setting_of g).room (place_at p' a).version None) = stage_known a owns lt ours ∙ ap (λ (o : Option Entry). stage_number (stage_in (setting_of g).room (place_at p' a).version o)) is in
             let five = no_stage (place_at p' a).version (λ z. omega arith) in omega arith)
 
     -- what a tab that reads there has seen of its offer is what the entry has
-    pub read_shows : (p : Plain) (j a given : ℕ) (is_other : Bool) (old : Entry) → OwnsAnchor g (view q).pass a → IsOfOffer g a old → (standing : Standing) → ReadsAs tells state offers s q j standing → a < g.setting.anchors
+    pub read_shows : (p : Plain) (j a given : ℕ) (is_other : Bool) (old : Entry) → OwnsAnchor g (view q).pass a → lot.anchors a ≡ true → IsOfOffer g a old → (standing : Standing) → ReadsAs tells state offers s q j standing → a < g.setting.anchors
         → standing.anchor ≡ a → standing.offer ≡ old.offer → old.key ≡ key_of standing.url → is_other ≡ not (bytes_eq old.url standing.url) → (standing.is_other ≡ true → is_other ≡ true)
         → (is_other ≡ true → standing.is_other ≡ false → standing.place ≡ 0) → (is_other ≡ false → given ≡ length (body_below g a old.offer standing.place)) → ShowsReading tells state offers s rename q p' j a given is_other
-    read_shows p j a given is_other old owns offer standing reads lt anchor_is offer_is key_is other_is turned unread given_is = let r = at_anchor in let e = some_entry a owns lt r.from r.to in let same_offer = offers_are r e.0 e.2 in
+    read_shows p j a given is_other old owns ours offer standing reads lt anchor_is offer_is key_is other_is turned unread given_is = let r = at_anchor in let e = some_entry a owns lt ours r.from r.to in let same_offer = offers_are r e.0 e.2 in
         let url = one_url begins g a old.offer e.0.url old.url e.0.body old.body (subst (λ (n : ℕ). IsResponse g a n e.0.url e.0.body) (sym same_offer) e.2.offer.response) offer.response in record {
           inside = lt;
           entry = e.0;
@@ -118,7 +130,7 @@ module _ {C O : Type 0} (tells : Bool) (state : C → CellState) (offers : O →
           standing = standing;
           reads = reads;
           anchor_is = anchor_is;
-          version_is = sym reads.version_is ∙ sym r.version_is ∙ version_known a owns lt;
+          version_is = sym reads.version_is ∙ sym r.version_is ∙ version_known a owns lt ours;
           offer_is = offer_is ∙ same_offer;
           key_is = e.2.offer.key ∙ ap key_of url ∙ sym offer.key ∙ key_is;
           other_is = other_is ∙ ap (λ (u : List ℕ). not (bytes_eq u standing.url)) (sym url);
@@ -139,9 +151,9 @@ module _ {C O : Type 0} (tells : Bool) (state : C → CellState) (offers : O →
             sym offer_is ∙ sym seen.0 ∙ ap (λ (b : ℕ). word_in g.setting st.state.words (place.Beside Offer b)) anchor_is ∙ owns.stands (view q) st (place.Beside Offer a) refl (pass_of q) refl lt ∙ h.names.offer
 
     -- A tab of the pass p that showed p is shown by q, where q has the tab and its desk still, and the plain store has it, and what it writes.
-    module _ (pass : Pass C) (p : Plain) (t : ℕ) (leaves : Leaves tells state offers s t pass q) (old : (a : ℕ) (e : Entry) → a < g.setting.anchors → entry_at p a ≡ Some e → IsOfOffer g a e) where
-      pub reading_shows : (j a given : ℕ) (is_other : Bool) → OwnsAnchor g (view q).pass a → j ≢ t → ShowsReading tells state offers s rename pass p j a given is_other → ShowsReading tells state offers s rename q p' j a given is_other
-      reading_shows j a given is_other owns ne h = read_shows p j a given is_other h.entry owns (old a h.entry h.inside h.there) h.standing (stays.reads pass q t j h.standing leaves ne h.reads) h.inside h.anchor_is h.offer_is h.key_is h.other_is h.turned h.unread h.given_is
+    module _ (pass : Pass C) (p : Plain) (t : ℕ) (leaves : Leaves tells state offers s t pass q) (old : (a : ℕ) (e : Entry) → a < g.setting.anchors → lot.anchors a ≡ true → entry_at p a ≡ Some e → IsOfOffer g a e) where
+      pub reading_shows : (j a given : ℕ) (is_other : Bool) → OwnsAnchor g (view q).pass a → lot.anchors a ≡ true → j ≢ t → ShowsReading tells state offers s rename pass p j a given is_other → ShowsReading tells state offers s rename q p' j a given is_other
+      reading_shows j a given is_other owns ours ne h = read_shows p j a given is_other h.entry owns ours (old a h.entry h.inside ours h.there) h.standing (stays.reads pass q t j h.standing leaves ne h.reads) h.inside h.anchor_is h.offer_is h.key_is h.other_is h.turned h.unread h.given_is
 
       pub writing_shows : (j a : ℕ) → j ≢ t → (h : ShowsWriting tells state offers s rename pass p j a) → entry_at p' a ≡ entry_at p a → (place_at p' a).version ≡ (place_at p a).version → ShowsWriting tells state offers s rename q p' j a
       writing_shows j a ne h same version = record {
@@ -165,35 +177,52 @@ module _ {C O : Type 0} (tells : Bool) (state : C → CellState) (offers : O →
       record { view = view pass; at = st.at; there = tab_there (view pass) j _ (let nine = pass_of pass in let b = k.writes.rests.below in omega arith) k.writes.rests.is }
       h.anchor_is k.anchor_is).1
 
-  pub shows_after : IsLone g → (pass q : Pass C) (p p' : Plain) (t : ℕ) → Shows tells state offers s rename pass p → Leaves tells state offers s t pass q → KeepsElse t (IsOwn t p) p p' → ShowsOn tells state offers s rename q p' t → t < 8 → Shows tells state offers s rename q p'
-  shows_after lone pass q p p' t h leaves keeps served below = record {
-    own = leaves.own;
-    inner_free = leaves.inner_free;
-    knows = served.knows;
-    hand = served.hand;
-    eight = keeps.eight ∙ h.eight;
-    tabs = λ j lt own. dite (ℕ_discrete j t)
-        (λ e. subst (λ (n : ℕ). ShowsTab tells state offers s rename q p' n (tab_at p' n)) (sym e) served.tab)
-        (λ ne. subst (ShowsTab tells state offers s rename q p' j) (sym (keeps.tabs j ne)) (other j ne lt (tab_at p j) refl (h.tabs j lt own)));
-    away = λ j lt no. absurd (false≢true (sym no));
-  }
-    where
-      old : (a : ℕ) (e : Entry) → a < g.setting.anchors → entry_at p a ≡ Some e → IsOfOffer g a e
-      old a e lt is = (subst (ShowsEntryIf g (view pass) a (place_at p a).version) is (h.knows.each a lt refl).entry).offer
+  -- What the pass shows of the lot once a request on one of its tabs was served.
+  module _ (lot : Lot) (pass q : Pass C) (p p' : Plain) (t : ℕ) (owns : OwnsLot g lot (view pass).pass) (h : ShowsLot tells state offers s rename pass p lot) (leaves : Leaves tells state offers s t pass q)
+      (keeps : KeepsElse t (IsOwn t p) p p') (served : ShowsOn tells state offers s rename lot q p' t) (below : t < 8) (mine : lot.tabs t ≡ true) where
+    old : (a : ℕ) (e : Entry) → a < g.setting.anchors → lot.anchors a ≡ true → entry_at p a ≡ Some e → IsOfOffer g a e
+    old a e lt ours is = (subst (ShowsEntryIf g (view pass) a (place_at p a).version) is (h.knows.each a lt ours).entry).offer
 
-      eight : length p'.tabs ≡ 8
-      eight = keeps.eight ∙ h.eight
+    eight_still : length p'.tabs ≡ 8
+    eight_still = keeps.eight ∙ h.eight
 
-      writer : (j a : ℕ) → j ≢ t → ShowsWriting tells state offers s rename pass p j a → tab_at p j ≡ Writing a → ShowsWriting tells state offers s rename q p' j a
-      writer j a ne w is = writing_shows q p' leaves.own served.knows eight pass p t leaves old j a ne w (keeps.entries a grows apart) (keeps.versions a grows apart)
-        where
-          grows : IsGrowing (entry_at p a)
-          grows = subst IsGrowing (sym w.there) w.grows
+    tab_still : (j : ℕ) → j ≢ t → j < 8 → core.tab_at (view q) j ≡ core.tab_at (view pass) j
+    tab_still j ne lt = leaves.others j ne (λ e. let z = e in omega arith)
 
-          apart : IsOwn t p a → ⊥
-          apart own = ne (sym (writers_apart pass p t j a (subst (ShowsTab tells state offers s rename pass p t) own (h.tabs t below refl)) w))
+    writer : (j a : ℕ) → j ≢ t → ShowsWriting tells state offers s rename pass p j a → tab_at p j ≡ Writing a → ShowsWriting tells state offers s rename q p' j a
+    writer j a ne w is = writing_shows lot q p' leaves.own served.knows eight_still pass p t leaves old j a ne w (keeps.entries a grows apart) (keeps.versions a grows apart)
+      where
+        grows : IsGrowing (entry_at p a)
+        grows = subst IsGrowing (sym w.there) w.grows
 
-      other : (j : ℕ) → j ≢ t → j < 8 → (x : Tab) → tab_at p j ≡ x → ShowsTab tells state offers s rename pass p j (tab_at p j) → ShowsTab tells state offers s rename q p' j x
-      other j ne lt Free is shown = leaves.others j ne (λ e. let z = e in omega arith) ∙ subst (ShowsTab tells state offers s rename pass p j) is shown
-      other j ne lt (Writing a) is shown = writer j a ne (subst (ShowsTab tells state offers s rename pass p j) is shown) is
-      other j ne lt (Reading a given is_other) is shown = reading_shows q p' leaves.own served.knows eight pass p t leaves old j a given is_other (owns_lone g lone (view q).pass a) ne (subst (ShowsTab tells state offers s rename pass p j) is shown)
+        apart : IsOwn t p a → ⊥
+        apart own = ne (sym (writers_apart pass p t j a (subst (ShowsTab tells state offers s rename pass p t) own (h.tabs t below mine)) w))
+
+    other : (j : ℕ) → j ≢ t → j < 8 → (x : Tab) → tab_at p j ≡ x → IsWithin lot x → ShowsTab tells state offers s rename pass p j x → ShowsTab tells state offers s rename q p' j x
+    other j ne lt Free is within shown = tab_still j ne lt ∙ shown
+    other j ne lt (Writing a) is within shown = writer j a ne shown is
+    other j ne lt (Reading a given is_other) is within shown = reading_shows lot q p' leaves.own served.knows eight_still pass p t leaves old j a given is_other
+        (lot_stays g lot (view pass) (view q) leaves.keeps.pass owns a shown.inside within) within ne shown
+
+    pub shows_after : ShowsLot tells state offers s rename q p' lot
+    shows_after = record {
+      own = leaves.own;
+      inner_free = leaves.inner_free;
+      knows = served.knows;
+      hand = served.hand;
+      eight = eight_still;
+      tabs = λ j lt own. dite (ℕ_discrete j t)
+          (λ e. subst (λ (n : ℕ). ShowsTab tells state offers s rename q p' n (tab_at p' n)) (sym e) served.tab)
+          (λ ne. subst (ShowsTab tells state offers s rename q p' j) (sym (keeps.tabs j ne)) (other j ne lt (tab_at p j) refl (h.within j lt own) (h.tabs j lt own)));
+      within = λ j lt own. dite (ℕ_discrete j t)
+          (λ e. subst (λ (n : ℕ). IsWithin lot (tab_at p' n)) (sym e) served.within)
+          (λ ne. subst (IsWithin lot) (sym (keeps.tabs j ne)) (h.within j lt own));
+      away = λ j lt no. let ne = another j no in let still = tab_still j ne lt in (
+        keeps.tabs j ne ∙ (h.away j lt no).0,
+        λ used. subst (λ (x : core_tab.Tab (List ℕ)). lot.anchors (core.anchor_of x) ≡ false) (sym still)
+            ((h.away j lt no).1 (ap core.is_free (sym still) ∙ used)),
+      );
+    }
+      where
+        another : (j : ℕ) → lot.tabs j ≡ false → j ≢ t
+        another j outside e = false≢true (sym outside ∙ (ap lot.tabs e ∙ mine))

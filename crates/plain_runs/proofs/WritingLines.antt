@@ -20,15 +20,16 @@ use Rattle.store_serve.specs.Writing.{AddsTo, Drops, EndsEntry}
 use Rattle.store_rule.specs.declared.store.Pass.{Pass}
 use Rattle.store_rule.specs.declared.store.Store.{Store}
 use Rattle.store_rule.specs.Ground.{Offers}
-use Rattle.store_rule.specs.Passes.{basis}
+use Rattle.store_rule.specs.Passes.{basis, view}
 use Rattle.store_serve.specs.Adding.{NotAdded}
 use Rattle.store_serve.specs.Storing.{left_of}
 use Rattle.store_serve.specs.declared.storing.PutFault.TheVariants.{Begin}
 use Rattle.worker_shelf.specs.Typed.{IsTyped}
-use Rattle.plain_runs.specs.Words.{IsLone, setting_of}
+use Rattle.plain_runs.specs.Words.{IsLone, setting_of, whole_lot}
 use Rattle.plain_runs.specs.Shows.{Shows}
-use Rattle.plain_runs.proofs.Giving.{IsGiven, adds_right, drops_right, ends_right}
-use Rattle.plain_runs.proofs.ServedLines.{IsAs}
+use Rattle.plain_runs.proofs.Giving.{IsGiven, adds_right, counted_supply, drops_right, ends_right}
+use Rattle.plain_runs.proofs.OwnAnchors.{lot_lone}
+use Rattle.plain_runs.proofs.Renamed.{IsAs}
 use Rattle.plain_runs.proofs.OwnVersions.{same_answer}
 use Rattle.plain_runs.proofs.Putting.{puts_right}
 
@@ -36,20 +37,22 @@ module _ {C O : Type 0} (tells : Bool) (state : C → CellState) (offers : O →
   abbrev setting : Setting
   setting = setting_of (basis tells state offers s)
 
-  as_given : (t : ℕ) (below : t < 8) (a : Answer) (q : Pass C) (made : Step) → IsGiven tells state offers s lone (λ v. v) t below a q made → IsAs tells state offers s a q t made
+  as_given : (t : ℕ) (below : t < 8) (a : Answer) (q : Pass C) (made : Step) → IsGiven tells state offers s whole_lot (λ v. v) t below a q made → IsAs tells state offers s a q t made
   as_given t below a q made h = record { answered = h.answered ∙ same_answer made.answer; shows = h.shows }
 
   pub adds_as : (t count anchor : ℕ) (p q : Pass C) (a : Answer) (plain : Plain) → t < 8 → Shows tells state offers s (λ v. v) p plain → tab_at plain t ≡ Writing anchor → is_fault a ≡ false
       → ((e : Entry) → WritesAs tells state offers s p t e → AddsTo tells state offers s t p a q count e) → IsAs tells state offers s a q t (add setting t count plain)
-  adds_as t count anchor p q a plain below shows writes fair served = as_given t below a q (add setting t count plain) (adds_right tells state offers s lone (λ v. v) t below p q plain a shows anchor writes count fair served)
+  adds_as t count anchor p q a plain below shows writes fair served = as_given t below a q (add setting t count plain) (adds_right tells state offers s whole_lot (λ v. v) t below p q plain a (lot_lone (basis tells state offers s) lone whole_lot (view p).pass) shows refl anchor writes
+      (counted_supply tells state offers s (λ v. v) t p plain shows lone _) count fair served)
 
   pub ends_as : (t anchor : ℕ) (p q : Pass C) (a : Answer) (plain : Plain) → t < 8 → Shows tells state offers s (λ v. v) p plain → tab_at plain t ≡ Writing anchor → is_fault a ≡ false
       → ((e : Entry) → WritesAs tells state offers s p t e → EndsEntry tells state offers s t p a q e) → IsAs tells state offers s a q t (end setting t plain)
-  ends_as t anchor p q a plain below shows writes fair served = as_given t below a q (end setting t plain) (ends_right tells state offers s lone (λ v. v) t below p q plain a shows anchor writes fair served)
+  ends_as t anchor p q a plain below shows writes fair served = as_given t below a q (end setting t plain) (ends_right tells state offers s whole_lot (λ v. v) t below p q plain a (lot_lone (basis tells state offers s) lone whole_lot (view p).pass) shows refl anchor writes
+      (counted_supply tells state offers s (λ v. v) t p plain shows lone _) fair served)
 
   pub drops_as : (t anchor : ℕ) (p q : Pass C) (a : Answer) (plain : Plain) → t < 8 → Shows tells state offers s (λ v. v) p plain → tab_at plain t ≡ Writing anchor → q.hand ≡ p.hand
       → Drops tells state offers s t p a q → IsAs tells state offers s a q t (give_up t plain)
-  drops_as t anchor p q a plain below shows writes hand d = as_given t below a q (give_up t plain) (drops_right tells state offers s lone (λ v. v) t below p q plain a shows anchor writes hand d)
+  drops_as t anchor p q a plain below shows writes hand d = as_given t below a q (give_up t plain) (drops_right tells state offers s whole_lot (λ v. v) t below p q plain a (lot_lone (basis tells state offers s) lone whole_lot (view p).pass) shows refl anchor writes hand d)
 
   pub puts_as : (offer : ℕ) (url : List ℕ) (body : Body) (durable : Bool) (p q : Pass C) (a : Answer) (plain : Plain) → Shows tells state offers s (λ v. v) p plain → tab_at plain whole_tab ≡ Free → is_fault a ≡ false
       → IsOffered tells state offers s offer url body → IsTyped a → Puts tells state offers s url p a q offer durable → IsAs tells state offers s a q whole_tab (put setting url (bytes_of body) offer plain)

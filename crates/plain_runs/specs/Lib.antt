@@ -2,3 +2,4 @@ pub mod Ends
 pub mod Runs
 pub mod Words
 pub mod Shows
+pub mod Alone

@@ -21,6 +21,12 @@ use Rattle.rock_writer.specs.Entries.{Entry as Writing_, WritesAs, size_of}
 use Rattle.store_serve.specs.Tabs.{IsFree}
 use Rattle.plain_runs.specs.Words.{KnowsLot, Lot, no_guests, whole_lot}
 
+-- the tab is at no anchor outside the lot
+abbrev pub IsWithin : Lot → Tab → Type 0
+IsWithin lot Free = Unit {0}
+IsWithin lot (Writing a) = lot.anchors a ≡ true
+IsWithin lot (Reading a given is_other) = lot.anchors a ≡ true
+
 module _ {C O : Type 0} (tells : Bool) (state : C → CellState) (offers : O → Offers) (s : Store C O) (rename : ℕ → ℕ) (pass : Pass C) (p : Plain) where
   -- the tab writes the entry that grows at the anchor
   pub record ShowsWriting (t a : ℕ) : Type 0 where
@@ -61,8 +67,8 @@ module _ {C O : Type 0} (tells : Bool) (state : C → CellState) (offers : O →
   abbrev pub IsElsewhere : Lot → ℕ → Type 0
   IsElsewhere lot t = (is_free (core_tab_at (view pass) t) ≡ false) → lot.anchors (anchor_of (core_tab_at (view pass) t)) ≡ false
 
-  -- Of its lot the pass shows the plain store p: by the words that it knows, its tabs and its hand. In p no other tab has an entry, and none
-  -- of the pass is at an anchor of the lot.
+  -- Of its lot the pass shows the plain store p: by the words that it knows, its tabs, which are at anchors of the lot, and its hand. In p no
+  -- other tab has an entry, and none of the pass is at an anchor of the lot.
   pub record ShowsLot (lot : Lot) : Type 0 where
     pub own : IsOf tells state offers s pass
     pub inner_free : InnerIsFree (view pass)
@@ -70,6 +76,7 @@ module _ {C O : Type 0} (tells : Bool) (state : C → CellState) (offers : O →
     pub hand : hand_in (basis tells state offers s).setting.anchors pass.hand ≡ p.hand
     pub eight : length p.tabs ≡ 8
     pub tabs : (t : ℕ) → t < 8 → lot.tabs t ≡ true → ShowsTab t (tab_at p t)
+    pub within : (t : ℕ) → t < 8 → lot.tabs t ≡ true → IsWithin lot (tab_at p t)
     pub away : (t : ℕ) → t < 8 → lot.tabs t ≡ false → (tab_at p t ≡ Free) × IsElsewhere lot t
 
   -- The pass shows the plain store p of the whole store.

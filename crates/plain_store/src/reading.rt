@@ -1,10 +1,12 @@
 // Reading and purging an entry.
-ghost use Rattle.std.specs.Prelude.{◌≡◌, ◌<◌, IfOk};
+ghost use Rattle.std.specs.Prelude.{◌≡◌, ◌<◌, IfOk, IfErr};
+ghost use Rattle.store_key.specs.Key.{key_of};
+ghost use Rattle.store_key.specs.Anchor.{anchor_of};
 ghost use Rattle.plain_model.specs.Store.{entry_at, with_tab};
 ghost use Rattle.plain_model.specs.Writing.{step};
-ghost use Rattle.plain_model.specs.Reading.{judge, has_url, open_at, open_tab, told, more, close, doom_at, purge_at, purge};
+ghost use Rattle.plain_model.specs.Reading.{judge, has_url, open_at, open_tab, told, more, close, doom_at, purge_at, purge, goes_doomed, wiped_by, wipe};
 
-use crate::look::{available, behind, epoch_at, epoch_of};
+use crate::look::{available, behind, epoch_at, epoch_of, is_left_over};
 use crate::writing::settle;
 use lock_word::{Cause, Epoch, cause_of};
 use plain_model::{Life, Plain, Setting, Tab};
@@ -130,19 +132,56 @@ pub(crate) fn close(store: &mut Plain, tab: u8) -> Answer
     Answer::Closed
 }
 
+/// An entry that was doomed.
+#[derive(Clone, Copy)]
+struct Doomed {
+    /// The doomed epoch.
+    epoch: Epoch,
+    /// Whether it went at once.
+    went: bool,
+}
+
 /// Dooms the entry of a URL's key.
+fn doom(setting: &Setting, store: &mut Plain, url: &[u8]) -> Result<Doomed, Cause>
+    requires anchors { 0 < setting.now.anchors }
+    requires room { 0 < setting.now.room }
+    ensures purged { IfOk result (λ doomed. purge setting.now url.now store.old ≡ step (Answer.Purged doomed.epoch) store.new) }
+    ensures went { IfOk result (λ doomed. doomed.went ≡ goes_doomed (anchor_of (key_of url.now) setting.now.anchors) store.old) }
+    ensures refused { IfErr result (λ cause. purge setting.now url.now store.old ≡ step (Answer.NoEntry cause) store.new) }
+{
+    let key = key_of(url);
+    let anchor = anchor_of(&key, setting.anchors);
+    if let Some(cause) = judge(setting, store, anchor, &key) {
+        return Err(cause);
+    }
+    store.places.doom(anchor);
+    let epoch = epoch_at(setting, store, anchor);
+    let went = is_left_over(store, anchor);
+    settle(store, anchor);
+    Ok(Doomed { epoch, went })
+}
+
+/// Takes the entry of a URL's key out of use.
 pub(crate) fn purge(setting: &Setting, store: &mut Plain, url: &[u8]) -> Answer
     requires anchors { 0 < setting.now.anchors }
     requires room { 0 < setting.now.room }
     ensures { purge setting.now url.now store.old ≡ step result store.new }
 {
-    let key = key_of(url);
-    let anchor = anchor_of(&key, setting.anchors);
-    if let Some(cause) = judge(setting, store, anchor, &key) {
-        return Answer::NoEntry { cause };
+    match doom(setting, store, url) {
+        Ok(Doomed { epoch, .. }) => Answer::Purged { epoch },
+        Err(cause) => Answer::NoEntry { cause },
     }
-    store.places.doom(anchor);
-    let epoch = epoch_at(setting, store, anchor);
-    settle(store, anchor);
-    Answer::Purged { epoch }
+}
+
+/// Takes it out of use, and tells whether it is erased.
+pub(crate) fn wipe(setting: &Setting, store: &mut Plain, url: &[u8]) -> Answer
+    requires anchors { 0 < setting.now.anchors }
+    requires room { 0 < setting.now.room }
+    ensures { wipe setting.now url.now store.old ≡ step result store.new }
+{
+    match doom(setting, store, url) {
+        Ok(Doomed { epoch, went: true }) => Answer::Wiped { epoch },
+        Ok(Doomed { epoch, went: false }) => Answer::Later { epoch },
+        Err(cause) => Answer::NoEntry { cause },
+    }
 }

@@ -7,7 +7,7 @@ ghost use Rattle.plain_model.specs.Writing.{step, begin};
 ghost use Rattle.plain_model.specs.Serving.{bytes_of, put, get, is_set_before, sets, serve, answers, after, lines_for, leave, leave_all, answers_of, left_by};
 ghost use Rattle.plain_store.specs.Servable.{IsOpenable, IsOffer, IsServable};
 
-use crate::reading::{close, more, open_tab, purge};
+use crate::reading::{close, more, open_tab, purge, wipe};
 use crate::writing::{add, begin, end, give_up};
 use plain_model::{Answers, Plain, Setting, Tab};
 use rock_io::{Memory, Octets};
@@ -130,6 +130,7 @@ fn serve(
         }
         Request::Get { url } => get(alloc, setting, store, url.as_slice()),
         Request::Purge { url } => Ok(purge(setting, store, url.as_slice())),
+        Request::Wipe { url } => Ok(wipe(setting, store, url.as_slice())),
         Request::Begin { tab, url, body } => {
             begin_offer(alloc, setting, store, *tab, url, body, line.number)
         }

@@ -1,7 +1,7 @@
 -- The inner tab was the last user of an entry that it doomed: its first slot is wiped, and then the chain is given back. Or it was not.
-use Rattle.std.proofs.Common.{Bool, Contains, List, ap, arith, false, inl, refl, subst, sym, true, ◌++◌, ◌≡◌, ◌⊎◌, ◌∙◌, ℕ}
+use Rattle.std.proofs.Common.{Bool, Contains, List, ap, arith, inl, set, subst, sym, true, ◌≡◌, ◌⊎◌, ◌∙◌, ℕ}
 use Rattle.std.proofs.lemmas.List.Elements.{Contains-append_right}
-use Rattle.lock_word.specs.Words.{epoch_number, epoch_of}
+use Rattle.lock_word.specs.Words.{doomed, epoch_number, epoch_of}
 use Rattle.lock_word.specs.declared.epoch.Epoch.{Epoch}
 use Rattle.rock_disk.specs.Cell.{CellState}
 use Rattle.store_key.specs.Key.{key_of}
@@ -19,6 +19,7 @@ use Rattle.store_rule.specs.Passes.{IsOf, Made, May, basis, view}
 use Rattle.store_rule.specs.Told.{Steps}
 use Rattle.rw_anchor.specs.Calls.{Leaves}
 use Rattle.rw_anchor.specs.declared.Left.{Left}
+use Rattle.slice_chain.specs.Names.{KeyLoaded}
 use Rattle.slice_chain.specs.Wiping.{MayWipeFirst}
 use Rattle.slice_chain.proofs.Writing.{set_again}
 use Rattle.rock_reader.specs.Closing.{MayPart}
@@ -45,7 +46,7 @@ may_leave tells state offers s p t may = record { own = may.own; can = record { 
 
 -- An entry was doomed, and left by its last user, who wiped it and gave it back.
 module _ {X : Type 0} (g : Ground X) (anchor : ℕ) (wanted : List ℕ) (e : Epoch) (v keyed : View X) (reads : tab_at keyed inner ≡ Tab.Reading (opened anchor e.version)) (word : ℕ) (after : View X)
-    (doom : Steps g keyed (Doom inner) word after) (left : Epoch) (left_is : epoch_number left ≡ epoch_of (Rattle.lock_word.specs.Words.doomed word)) (last : View X) (leaves : Leaves g after inner Left.MustFree last)
+    (doom : Steps g keyed (Doom inner) word after) (left : Epoch) (left_is : epoch_number left ≡ epoch_of (doomed word)) (last : View X) (leaves : Leaves g after inner Left.MustFree last)
     (done : Bool) (w : View X) (ends : WipedAndFreed g done last w) where
   abbrev takes : TakesAll g anchor e keyed reads word after doom last
   takes = takes_all g anchor e keyed reads word after doom last leaves
@@ -71,7 +72,7 @@ module _ {X : Type 0} (g : Ground X) (anchor : ℕ) (wanted : List ℕ) (e : Epo
   pub grows_after : Grows after w
   grows_after = grows_on after last w (grows_leaves g after last inner Left.MustFree leaves) grows_ends
 
-  pub wiped_entry : Rattle.slice_chain.specs.Names.KeyLoaded g inner v wanted keyed → WipedEntry g inner anchor wanted e done v left w
+  pub wiped_entry : KeyLoaded g inner v wanted keyed → WipedEntry g inner anchor wanted e done v left w
   wiped_entry key = record {
     keyed = keyed;
     key = key;
@@ -119,11 +120,11 @@ module _ {C O : Type 0} (tells : Bool) (state : C → CellState) (offers : O →
 
       module _ (done : Bool) (w : View (List ℕ)) (ends : WipedAndFreed g done (view m) w) where
         pub free_last : w.tabs ≡ with_tab (view u) inner Tab.Free
-        free_last = ends.tabs ∙ ap (λ (xs : List (Tab (List ℕ))). Rattle.std.proofs.Common.set xs inner Tab.Free) all.tabs
+        free_last = ends.tabs ∙ ap (λ (xs : List (Tab (List ℕ))). set xs inner Tab.Free) all.tabs
             ∙ set_again (with_tab (view u) inner Tab.Free) inner (Freeing all.freer) Tab.Free ∙ set_again (view u).tabs inner Tab.Free Tab.Free
 
         module _ (left : Epoch) (is : epoch_number left ≡ epoch_of told) where
-          left_is : epoch_number left ≡ epoch_of (Rattle.lock_word.specs.Words.doomed made.found)
+          left_is : epoch_number left ≡ epoch_of (doomed made.found)
           left_is = is ∙ ap epoch_of made.answers
 
           abbrev since : Grows (view u) w

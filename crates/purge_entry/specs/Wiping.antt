@@ -35,15 +35,19 @@ IsInUse n = (0 < readers_of n) ⊎ ((stage_of (epoch_of n) ≢ 3) × (stage_of (
 module _ {X : Type 0} (g : Ground X) (t : ℕ) (v w : View X) where
   -- the word that the tab left is that of an entry which is in use
   pub record LeftInUse : Type 0 where
+    -- the word that it found, which counted the tab too
     pub found : ℕ
     pub leave : Steps g v (Leave t) found w
+    -- the word that it left has one reader less
     pub used : IsInUse (found - 1)
 
   -- The tab left, and tried to have the entry freed. It found another word than the one that it had left: another pass came before it.
   pub record WasOvertaken : Type 0 where
+    -- the word that it found when it left
     pub found : ℕ
     pub middle : View X
     pub leave : Steps g v (Leave t) found middle
+    -- the word that it found when it tried
     pub other : ℕ
     pub tries : Steps g middle (Evict t (anchor_of (tab_at v t))) other w
     pub differs : other ≢ found - 1
@@ -51,12 +55,14 @@ module _ {X : Type 0} (g : Ground X) (t : ℕ) (v w : View X) where
 -- The entry was purged as by `purge`, and the tab left it to others.
 pub record LeftToOthers {X : Type 0} (g : Ground X) (t : ℕ) (url : List ℕ) (v : View X) (left : Epoch) (w : View X) : Type 0 where
   pub purged : Purged g t url v left w
+  -- why it is not this call that frees the entry
   pub why : LeftInUse g t purged.entry.after w ⊎ WasOvertaken g t purged.entry.after w
 
 -- The call was the last user.
 
 -- The first slot of the chain that the inner tab frees was wiped, or the station failed at that. Then each slot was given back.
 pub record WipedAndFreed {X : Type 0} (g : Ground X) (done : Bool) (v w : View X) : Type 0 where
+  -- the view behind the wiping, from which each slot is given back
   pub blanked : View X
   pub wiped : WipedFirst g v done blanked
   pub freed : Freed g blanked w
@@ -67,11 +73,13 @@ pub record WipedAndFreed {X : Type 0} (g : Ground X) (done : Bool) (v w : View X
 pub record WipedEntry {X : Type 0} (g : Ground X) (t anchor : ℕ) (wanted : List ℕ) (epoch : Epoch) (done : Bool) (v : View X) (left : Epoch) (w : View X) : Type 0 where
   pub keyed : View X
   pub key : KeyLoaded g t v wanted keyed
+  -- while the tab was there it read the version
   pub reads : tab_at keyed t ≡ Reading (opened anchor epoch.version)
   pub word : ℕ
   pub after : View X
   pub doom : Steps g keyed (Doom t) word after
   pub left_is : epoch_number left ≡ epoch_of (doomed word)
+  -- the view from which the inner tab has the slots of the entry
   pub last : View X
   pub leaves : Leaves g after t Left.MustFree last
   pub ends : WipedAndFreed g done last w

@@ -78,8 +78,8 @@ module _ (tells : Tells) (name : List ℕ) (given : Option ℕ) (anchors workers
 pub plain_bench : (volume_tells : Bool) (files files_after : Files) (name : List ℕ) (seed workers count : ℕ) (before after : Counts)
     (taken taken_after : List ℕ) (status : Status)
     → ReportPrints (IsBenchText volume_tells files files_after name seed workers count before after) taken taken_after status
-    → workers ≡ 1 → IsTrue volume_tells → status ≡ Done → NoWorkerFailed before after → taken_after ≡ taken ++ plain_line seed count
-plain_bench volume_tells files files_after name seed workers count before after taken taken_after status prints one told done none =
+    → IsTrue volume_tells → status ≡ Done → NoWorkerFailed before after → taken_after ≡ taken ++ plain_line seed workers count
+plain_bench volume_tells files files_after name seed workers count before after taken taken_after status prints told done none =
     let printed = subst (λ (s : Status). ReportPrints (IsBenchText volume_tells files files_after name seed workers count before after)
     taken taken_after s) done prints in
-    printed.2 ∙ ap (λ (text : List ℕ). taken ++ text) (printed.1.plain one told none)
+    printed.2 ∙ ap (λ (text : List ℕ). taken ++ text) (printed.1.plain told none)

@@ -31,10 +31,10 @@ pub record BenchDoes (tells : Tells) (name : List ℕ) (seed workers count : ℕ
   -- What is left of the files.
   pub leaves : BenchLeaves tells.volume before.files after.files name workers (bench_lines seed workers count)
       before.counts after.counts status
-  -- With one worker whose station met no fault it prints the one line of a plain store that was never written, which the seed and the
-  -- rounds alone determine.
-  pub plain : workers ≡ 1 → IsTrue tells.volume → IsTrue tells.sink → status ≡ Done → NoWorkerFailed before.counts after.counts
-      → after.taken ≡ before.taken ++ plain_line seed count
+  -- Where no worker's station met a fault it prints one line, whatever order the workers come in: that of plain stores that were never
+  -- written, each of which answers one worker. The seed, the workers and the rounds alone determine it.
+  pub plain : IsTrue tells.volume → IsTrue tells.sink → status ≡ Done → NoWorkerFailed before.counts after.counts
+      → after.taken ≡ before.taken ++ plain_line seed workers count
   -- Its stations are that of the header area of its file, and behind it those of its run: each that was made was ended.
   pub stations : BenchEnded before.counts after.counts
   -- At any status but that of a fault of the disk the volume's count is as it was, and the stations of the header area and of the rebuild

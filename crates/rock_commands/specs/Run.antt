@@ -32,7 +32,8 @@ pub record RunDoes (tells : Tells) (name : List ℕ) (given : Option ℕ) (ancho
       → RunPrints (IsRunText tells.source tells.volume before.left after.left before.files after.files name given anchors workers
       before.counts after.counts) before.taken after.taken status
   -- What is left of the files. At the end of a run the file is back. A rebuild of it keeps each entry that stood closed and not doomed; of
-  -- all that a crash may leave of the file it keeps those that the file had before and those of `save` lines.
+  -- all that a crash may leave of the file it keeps those that the file had before and those of `save` lines. None of that has an entry
+  -- of a new version that a `wipe` line was answered WIPED with.
   pub leaves : RunLeaves tells.source tells.volume before.left after.left before.files after.files name given anchors workers
       before.counts after.counts status
   -- For a word `-` and a file whose header area records its slots, all of this is so with the size that is recorded.

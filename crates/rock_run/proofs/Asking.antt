@@ -10,7 +10,7 @@ use Rattle.script_text.specs.Requests.{SpellsRequest, url_in}
 use Rattle.script_text.specs.declared.body.Body.{Body}
 use Rattle.script_text.specs.declared.line.Line.{Line}
 use Rattle.script_text.specs.declared.request.Request.{Request}
-use Rattle.script_text.specs.declared.request.Request.TheVariants.{Await, Begin, Get, Mark, OpenTab, Purge, Put, Save}
+use Rattle.script_text.specs.declared.request.Request.TheVariants.{Await, Begin, Get, Mark, OpenTab, Purge, Put, Save, Wipe}
 use Rattle.script_text.specs.declared.verb.Verb.{Verb}
 use Rattle.plain_model.specs.Serving.{bytes_of}
 use Rattle.store_key.specs.Anchor.{anchor_of}
@@ -112,6 +112,7 @@ module _ {C O : Type 0} (tells : Bool) (state : C → CellState) (offers : O →
   may_ask number (Save url body) h e marks awaits = is_offered number url body h e
   may_ask number (Get url) h e marks awaits = h
   may_ask number (Purge url) h e marks awaits = h
+  may_ask number (Wipe url) h e marks awaits = h
   may_ask number (Begin tab url body) h e marks awaits = let le = h.0 in (omega arith, is_offered number url body h.1 e)
   may_ask number (OpenTab tab url) h e marks awaits = let le = h.0 in (omega arith, h.1)
   may_ask number (Mark mark) h e marks awaits = marks mark refl

@@ -1,4 +1,5 @@
 -- What a file that was given back has of the entries that stood closed at the end.
+use Rattle.std.specs.Prelude.{◌≢◌}
 use Rattle.std.proofs.Common.{All, Bool, Contains, IsTrue, List, [], ap, arith, inl, inr, length, map, refl, subst, suc, sym, zero, ◌+◌}
 use Rattle.std.proofs.Common.{◌-◌, ◌<◌, ◌∙◌, ◌∷◌, ◌≡◌, ◌≤◌, ℕ}
 use mathlib.Core.Logic.{dite}
@@ -6,19 +7,21 @@ use mathlib.Core.Option.{some, some-injective, some-ne-none}
 use native.Mathlib.Decide.{ℕ_discrete}
 use lib.ListN.{get_elem?}
 use Rattle.lock_word.specs.Words.{doom_of, epoch_of, stage_of, version_of}
+use Rattle.lock_word.specs.declared.epoch.Epoch.{Epoch}
 use Rattle.store_key.specs.Anchor.{anchor_of}
 use Rattle.store_key.specs.Key.{key_of}
 use Rattle.rock_disk.specs.Cell.{CellState}
 use Rattle.rock_disk.specs.Crash.{IsCrashImage, NowMayStay}
 use Rattle.rock_disk.specs.File.{Files}
 use Rattle.rebuild_model.specs.Entry.{Entry, IsComplete}
+use Rattle.rebuild_model.specs.Image.{IsGreatest}
 use Rattle.rebuild_model.specs.Rebuilt.{IsWinner}
 use Rattle.script_text.specs.declared.answer.Answer.{Answer}
-use Rattle.script_text.specs.declared.answer.Answer.TheVariants.{Stored}
+use Rattle.script_text.specs.declared.answer.Answer.TheVariants.{Stored, Wiped}
 use Rattle.script_text.specs.declared.body.Body.{Body}
 use Rattle.script_text.specs.declared.line.Line.{Line}
 use Rattle.script_text.specs.declared.request.Request.{Request}
-use Rattle.script_text.specs.declared.request.Request.TheVariants.{Save}
+use Rattle.script_text.specs.declared.request.Request.TheVariants.{Save, Wipe}
 use Rattle.plain_model.specs.declared.entry.Entry.{Entry as PlainEntry}
 use Rattle.plain_model.specs.declared.store.Plain.{Plain}
 use Rattle.plain_model.specs.Serving.{bytes_of}
@@ -90,6 +93,15 @@ some_items x xs ys e = let n = ap length e in omega arith
 first_items : (x y : ℕ) (xs ys : List ℕ) → ◌≡◌ {A = List ℕ} (x ∷ xs) (y ∷ ys) → x ≡ y
 first_items x y xs ys e = cc
 
+-- one greatest version is not above another
+pub greatest_below : (slot : ℕ) (images : List (List ℕ)) (m n : ℕ) → IsGreatest slot images m → IsGreatest slot images n → m ≤ n
+greatest_below slot images zero n a b = omega arith
+greatest_below slot images (suc m) n a b =
+    let there = a.there (omega arith) in
+    let low = b.above there.0 there.1 in
+    let is = there.2 in
+    omega arith
+
 module _ {C St : Type 0} (volume_tells told : Bool) (state : C → CellState) (faults : St → ℕ) (files left : Files) (name : List ℕ)
     (slot anchors workers : ℕ) (script : List Line) (answers : List (List (ℕ × Answer)))
     (before after : Counts) (h : HasRun volume_tells told state files left name slot anchors workers script faults answers before after)
@@ -137,6 +149,12 @@ module _ {C St : Type 0} (volume_tells told : Bool) (state : C → CellState) (f
       h).closed.gathered.state → OfLines last
   here_too of = subst OfLines (same_state volume_tells told state faults files left name slot anchors workers script answers before after h)
       of
+
+  -- what another law says of lines that were answered WIPED
+  abbrev pub WipesLast : Type 0
+  WipesLast = (w : ℕ) (account : Account (OnShelf C (List Line) St)) → get_elem? accounts w ≡ some account → (x : Stage (OnShelf C (List Line) St)) → Contains account.stages x
+      → (url : List ℕ) (epoch : Epoch) → x.line.request ≡ Wipe url → x.answer ≡ Wiped epoch → opening_counter g.setting < epoch.version
+      → (crashed : List (List ℕ)) → IsCrashImage cells crashed → (e : Entry) → IsComplete slot crashed e → e.version ≢ epoch.version
 
   -- what other laws say, as they are used here
   pub record Laws : Type 0 where
@@ -288,6 +306,36 @@ module _ {C St : Type 0} (volume_tells told : Bool) (state : C → CellState) (f
                 (λ z. saved q.0 q.1 q.2 q.3 (omega arith))
                 (λ ne. inl (omega arith))
 
+    -- The stage of a line with this request, and this answer.
+    module _ (order : AreInOrder script) (line : Line) (request : Request) (answer : Answer) (among : Contains script line) (is : line.request ≡ request) (answered : IsAnswered answers line answer) where
+      record IsStage : Type 0 where
+        account : Account (OnShelf C (List Line) St)
+        at : get_elem? accounts (line.worker - 1) ≡ some account
+        stage : Stage (OnShelf C (List Line) St)
+        has : Contains account.stages stage
+        request_is : stage.line.request ≡ request
+        answer_is : stage.answer ≡ answer
+
+      stage_of_line : IsStage
+      stage_of_line =
+          let i = image answers_of accounts (line.worker - 1) answered.mine (ap (λ z. get_elem? z (line.worker - 1)) h.served.played.answers_are ∙ answered.at) in
+          let m = contains_map (λ (x : Stage (OnShelf C (List Line) St)). (x.line.number, x.answer)) i.item.stages (line.number, answer)
+          (subst (λ (xs : List (ℕ × Answer)). Contains xs (line.number, answer)) (sym i.is) answered.among) in
+          let played = h.served.played.each (line.worker - 1) i.item (at_place accounts (line.worker - 1) i.item i.at) in
+          let own = in_script (line.worker - 1 + 1) script i.item.stages played.each m.0 m.1 in
+          let same : m.0.line ≡ line = one_number script order m.0.line line own.0 among (ap (λ (q : ℕ × Answer). q.0) m.2) in
+          record { account = i.item; at = i.at; stage = m.0; has = m.1; request_is = ap Line.request same ∙ is; answer_is = ap (λ (q : ℕ × Answer). q.1) m.2 }
+
+    -- What a `wipe` line erased.
+    wiped_left : WipesLast → AreInOrder script → (line : Line) (url : List ℕ) (epoch : Epoch) (greatest : ℕ) → Contains script line → line.request ≡ Wipe url → IsAnswered answers line (Wiped epoch)
+        → IsGreatest slot images greatest → greatest < epoch.version → (crashed : List (List ℕ)) → IsCrashImage cells crashed → (e : Entry) → IsComplete slot crashed e → e.version ≢ epoch.version
+    wiped_left lasts order line url epoch greatest among is answered great high =
+        let s = stage_of_line order line (Wipe url) (Wiped epoch) among is answered in
+        let over = h.closed.opened.store in
+        let low = greatest_below slot images over.rebuilt.greatest greatest (subst (λ (z : List (List ℕ)). IsGreatest slot z over.rebuilt.greatest) (over.kept.told (h.closed.opened.told tells)) over.kept.rebuilt.greatest) great in
+        let counter = over.opened.opened.counter in
+        lasts (line.worker - 1) s.account s.at s.stage s.has url epoch s.request_is s.answer_is (omega arith)
+
     -- What a `save` line stored.
     module _ (order : AreInOrder script) (line : Line) (url : List ℕ) (body : Body) (version : ℕ) (among : Contains script line)
         (is : line.request ≡ Save url body) (answered : IsAnswered answers line (Stored version))
@@ -305,34 +353,8 @@ module _ {C St : Type 0} (volume_tells told : Bool) (state : C → CellState) (f
       abbrev w : ℕ
       w = line.worker - 1
 
-      -- the stage of the line
-      record IsStage : Type 0 where
-        account : Account (OnShelf C (List Line) St)
-        at : get_elem? accounts (line.worker - 1) ≡ some account
-        stage : Stage (OnShelf C (List Line) St)
-        has : Contains account.stages stage
-        request_is : stage.line.request ≡ Save url body
-        answer_is : stage.answer ≡ Stored version
-
-      its_stage : IsStage
-      its_stage =
-          let i = image answers_of accounts (line.worker - 1) answered.mine
-          (ap (λ z. get_elem? z (line.worker - 1)) h.served.played.answers_are ∙ answered.at) in
-          let m = contains_map (λ (x : Stage (OnShelf C (List Line) St)). (x.line.number, x.answer)) i.item.stages
-          (line.number, Stored version)
-          (subst (λ (xs : List (ℕ × Answer)). Contains xs (line.number, Stored version)) (sym i.is) answered.among) in
-          let played = h.served.played.each (line.worker - 1) i.item (at_place accounts (line.worker - 1) i.item i.at) in
-          let own = in_script (line.worker - 1 + 1) script i.item.stages played.each m.0 m.1 in
-          let same : m.0.line ≡ line = one_number script order m.0.line line own.0 among (ap (λ (q : ℕ × Answer). q.0) m.2) in
-          record {
-            account = i.item;
-            at = i.at;
-            stage = m.0;
-            has = m.1;
-            request_is = ap Line.request same ∙ is;
-            answer_is =
-                ap (λ (q : ℕ × Answer). q.1) m.2;
-          }
+      its_stage : IsStage order line (Save url body) (Stored version) among is answered
+      its_stage = stage_of_line order line (Save url body) (Stored version) among is answered
 
       known : IsLasting g last rule.logged.log (anchor_for g url) × (offer_at g last
           (anchor_for g url) ≡ g.setting.slots + its_stage.stage.line.number)
@@ -359,14 +381,16 @@ module _ {C St : Type 0} (volume_tells told : Bool) (state : C → CellState) (f
             body_is = r.body ∙ ap (λ (n : ℕ). g.offers.body (n - g.setting.slots)) offer_is ∙ o.body_is;
           }
 
-    pub standing : AreInOrder script → Responses volume_tells told state files left name slot anchors workers script tells h.closed
+    pub standing : WipesLast → AreInOrder script → Responses volume_tells told state files left name slot anchors workers script tells h.closed
         → ((c : C) → NowMayStay (state c))
         → ((all : List CellState) → All NowMayStay all → IsCrashImage all (map (λ (c : CellState). c.now) all))
         → LeavesStanding files left name slot anchors script answers (word last)
     unfolding given_back
-    standing order law stays now = record {
+    standing wipes order law stays now = record {
       file = given_back volume_tells told state files left name slot anchors workers script tells h.closed law stays now;
       closed = λ a lt w. subst (λ (z : List (List ℕ)). Stands slot anchors z script cells a (version_of (epoch_of (word last a))))
           (images_are volume_tells told state files left name slot anchors workers script tells h.closed) (stands a lt w.stage w.undoomed);
       saved = saved_left order;
+      wiped = λ line url epoch greatest among is answered great. wiped_left wipes order line url epoch greatest among is answered
+          (subst (λ (z : List (List ℕ)). IsGreatest slot z greatest) (sym (images_are volume_tells told state files left name slot anchors workers script tells h.closed)) great);
     }

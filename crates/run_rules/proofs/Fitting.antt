@@ -15,7 +15,7 @@ use Rattle.rock_run.specs.Offered.{most_taken, offers_of}
 use Rattle.run_rules.specs.Fitting.{FitsInto, KeepsNone, KeepsSlots, most_held}
 
 -- sums over numbers of anchors, each item of which is at most the other's
-sum_below : (f g : ℕ → ℕ) (from n : ℕ) → ((a : ℕ) → a < from + n → f a ≤ g a)
+pub sum_below : (f g : ℕ → ℕ) (from n : ℕ) → ((a : ℕ) → a < from + n → f a ≤ g a)
     → sum_by f (range_with_len from n) ≤ sum_by g (range_with_len from n)
 sum_below f g from zero h = omega arith
 sum_below f g from (suc n) h =

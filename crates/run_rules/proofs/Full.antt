@@ -15,14 +15,14 @@ use Rattle.run_rules.specs.Runs.{printed_by}
 use Rattle.run_rules.proofs.Lists.{image}
 
 -- one of these lines printed this
-record IsPrinted (served : List Served) (told : ℕ × Answer) : Type 0 where
-  later : List Served
-  line : Served
-  earlier : List Served
-  split : served ≡ later ++ line ∷ earlier
-  is : (line.asked.number, line.answer) ≡ told
+pub record IsPrinted (served : List Served) (told : ℕ × Answer) : Type 0 where
+  pub later : List Served
+  pub line : Served
+  pub earlier : List Served
+  pub split : served ≡ later ++ line ∷ earlier
+  pub is : (line.asked.number, line.answer) ≡ told
 
-printed_line : (served : List Served) (told : ℕ × Answer) → Contains (printed_by served) told → IsPrinted served told
+pub printed_line : (served : List Served) (told : ℕ × Answer) → Contains (printed_by served) told → IsPrinted served told
 printed_line [] told c = absurd (contains_none told c)
 printed_line (s ∷ earlier) told c = ⊎_elim
     (λ (h : Contains (printed_by earlier) told).

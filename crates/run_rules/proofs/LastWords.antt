@@ -22,7 +22,7 @@ use Rattle.core_model.proofs.StepsKeepTabs.{deeds_have_tabs}
 use Rattle.line_account.specs.Accounts.{Account}
 use Rattle.line_account.specs.Answers.{Run}
 use Rattle.line_account.specs.Closing.{BegunIn, HaltedIn, LineIn, PurgedIn, PurgesVersion, StoredIn, Stores, Worker}
-use Rattle.line_account.specs.Deeds.{Begins, Evicts, Halts, IsDeedOf, IsDeedOfEnd, IsWriting, Purges}
+use Rattle.line_account.specs.Deeds.{Begins, Evicts, Halts, IsDeedOf, IsDeedOfEnd, IsWriting, Purges, WipesInVain}
 use Rattle.line_account.specs.Lines.{LineOf, Served}
 use Rattle.line_account.specs.Printed.{GivenBackIn, HadEntry, WasWhole}
 use Rattle.line_account.proofs.GivenWay.{gave_way}
@@ -145,12 +145,11 @@ module _ {X : Type 0} (r : Run X) (crew : List Worker) (view_at : ℕ → View X
         done)
 
     purged : (a x : ℕ) → IsDone s (DoomedVersion a x) → PurgedIn r crew a x
-    purged a x done = by_line (DoomedVersion a x) (λ earlier line. PurgesVersion r.setting.anchors line a x)
-        (λ v d earlier line q h. record {
-          epoch = d.epoch;
-          purges = subst (λ (b : ℕ). Purges r.setting.anchors line b d.epoch) q.1 (h.doomed q.0);
-          version_is = q.2;
-        })
+    purged a x done = by_line (DoomedVersion a x) (λ earlier line. PurgesVersion r.setting.anchors line a x ⊎ WipesInVain r.setting.anchors line a)
+        (λ v d earlier line q h. ⊎_elim
+        (λ (p : Purges r.setting.anchors line d.anchor d.epoch). inl (record { epoch = d.epoch; purges = subst (λ (b : ℕ). Purges r.setting.anchors line b d.epoch) q.1 p; version_is = q.2 }))
+        (λ (p : WipesInVain r.setting.anchors line d.anchor). inr (subst (λ (b : ℕ). WipesInVain r.setting.anchors line b) q.1 p))
+        (h.doomed q.0))
         (λ d served q h. h.doomed q.0)
         done
 

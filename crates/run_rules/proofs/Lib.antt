@@ -15,3 +15,7 @@ pub mod Offered
 pub mod Left
 mod LastWords
 mod PutAndGet
+mod Suiting
+mod LeftAlone
+mod Unspent
+mod Private

@@ -18,12 +18,12 @@ use Rattle.core_model.specs.Anchors.{opening_counter, opening_epoch}
 use Rattle.core_model.proofs.Lists.{cons_contains, contains_none}
 use Rattle.line_account.specs.Accounts.{Shows}
 use Rattle.line_account.specs.Alone.{alone, home, next_version, nothing}
-use Rattle.line_account.specs.Answers.{Refuses, Run, bytes_with}
+use Rattle.line_account.specs.Answers.{Refuses, Run, TellsDoom, bytes_with}
 use Rattle.line_account.specs.Bodies.{HaveBodies, HaveKeys}
 use Rattle.line_account.specs.Closing.{BegunIn, HaltedIn, LineIn, PrintsDoomed, PrintsHalted, Stores, TellsBegunIn, Worker}
 use Rattle.line_account.specs.Crews.{IsAmong, KnewOf}
 use Rattle.line_account.specs.Crews.KnewOf.{own, told}
-use Rattle.line_account.specs.Deeds.{Begins, Halts, PrintsBegun, PrintsBegunVersion, TellsBegun}
+use Rattle.line_account.specs.Deeds.{Began, Begins, Halts, PrintsBegun, PrintsBegunVersion}
 use Rattle.line_account.specs.Epochs.{EpochsHaveCauses}
 use Rattle.run_rules.specs.Lawful.{MayBegin, get_line, put_and_get, put_and_get_script, put_line}
 use Rattle.script_text.specs.Requests.{url_in}
@@ -33,7 +33,7 @@ use Rattle.line_account.specs.Ordering.{AreInOrder, AreNotShort}
 use Rattle.line_account.specs.Parts.{PrintsPart}
 use Rattle.line_account.specs.Printed.{AreFirstOnes, Ends, EndsBegun, Finds, FinishedIn, IsBodyAsPrinted, IsBodyOfLine, IsKeyOfLine}
 use Rattle.line_account.specs.Printed.{NeedsTooMany, PrintsAdded, PrintsEnded, PrintsHit, PrintsKey, PrintsLarge, PrintsOther}
-use Rattle.line_account.specs.Printed.{PrintsReaders, ReadsOf, ReadsVersion, ReadsWhole}
+use Rattle.line_account.specs.Printed.{PrintsBusy, PrintsReaders, ReadsOf, ReadsVersion, ReadsWhole}
 use Rattle.line_account.specs.Refusals.{Any, AnswersHaveCauses}
 use Rattle.line_account.specs.Requests.{IsAnswerTo}
 use Rattle.line_account.specs.Rules.{KeepsRules}
@@ -187,6 +187,9 @@ module _ {X : Type 0} (r : Run X) (url : List ℕ) (m : MayBegin r url) (w : Wor
     readers = λ b p. absurd (never (λ earlier s. PrintsReaders r.setting.anchors earlier s b)
         (λ h. let k : answer.Hit x [] ≡ answer.Busy h.looked h.other = h.printed in cc)
         (λ h. let k : answer.Stored x ≡ answer.Busy h.looked h.other = h.printed in cc) p);
+    counted = λ b looked other p. absurd (never (λ earlier s. PrintsBusy r.setting.anchors earlier s b looked other)
+        (λ h. let k : answer.Hit x [] ≡ answer.Busy looked other = h.printed in cc)
+        (λ h. let k : answer.Stored x ≡ answer.Busy looked other = h.printed in cc) p);
     spent = λ n p. absurd (never (λ earlier s. s.answer ≡ answer.Spent n) (λ h. let k : answer.Hit x [] ≡ answer.Spent n = h in cc)
         (λ h. let k : answer.Stored x ≡ answer.Spent n = h in cc) p);
     large = λ first u body p o. absurd (never (λ earlier s. PrintsLarge earlier s first)
@@ -355,10 +358,8 @@ module _ {X : Type 0} (r : Run X) (url : List ℕ) (m : MayBegin r url) (w : Wor
     doomed_line = λ b y p. absurd (never (λ earlier s. PrintsDoomed r.setting.anchors earlier s b y)
         (λ h. let k : answer.Hit x [] ≡ answer.Doomed y = h.printed in cc)
         (λ h. let k : answer.Stored x ≡ answer.Doomed y = h.printed in cc) p);
-    purged = λ e p. absurd (never (λ earlier s. s.answer ≡ answer.Purged e) (λ h. let k : answer.Hit x [] ≡ answer.Purged e = h in cc)
-        (λ h. let k : answer.Stored x ≡ answer.Purged e = h in cc) p);
-    purged_stage = λ e p. absurd (never (λ earlier s. s.answer ≡ answer.Purged e) (λ h. let k : answer.Hit x [] ≡ answer.Purged e = h in cc)
-        (λ h. let k : answer.Stored x ≡ answer.Purged e = h in cc) p);
+    purged = λ e p. absurd (never (λ earlier s. TellsDoom s.answer e) (λ h. h) (λ h. h) p);
+    purged_stage = λ e p. absurd (never (λ earlier s. TellsDoom s.answer e) (λ h. h) (λ h. h) p);
     given_back = λ b e p undoomed four. absurd (let s = (shown b e p).1 in omega arith);
     given_back_new = λ fit b e p undoomed four. absurd (let s = (shown b e p).1 in omega arith);
   }
@@ -411,12 +412,12 @@ module _ {X : Type 0} (r : Run X) (url : List ℕ) (m : MayBegin r url) (w : Wor
   knew_none earlier none t before (own among) = no_item among.later before t (none ∙ among.split)
   knew_none earlier none t before (told met knows) = no_item met.awaits.later met.between met.met (none ∙ met.awaits.split)
 
-  -- the line that printed that it began a version is the first one, which knew of none
-  begun_first : (P : List Served → Served → Type 0) (p : LineIn crew P) (b y : ℕ) → PrintsBegunVersion r.setting.anchors p.served b y
+  -- the line that began a version is the first one, which knew of none
+  begun_first : (P : List Served → Served → Type 0) (p : LineIn crew P) (b y : ℕ) → Begins r.setting.anchors p.served b y
       → (s : Served) (earlier : List Served) → KnewOf crew p.earlier s earlier → ⊥
   begun_first P p b y begun s earlier knows = ⊎_elim
-      (λ (h : (get ≡ p.served) × (put ∷ [] ≡ p.earlier)). subst (λ (z : Served). TellsBegun z.asked.request z.answer y)
-      (sym h.0) begun.told)
+      (λ (h : (get ≡ p.served) × (put ∷ [] ≡ p.earlier)). subst (λ (z : Served). Began z.asked.request z.answer y)
+      (sym h.0) begun.began)
       (λ (h : (put ≡ p.served) × ([] ≡ p.earlier)). knew_none p.earlier h.1 s earlier knows)
       (line_of P p)
 
@@ -427,8 +428,8 @@ module _ {X : Type 0} (r : Run X) (url : List ℕ) (m : MayBegin r url) (w : Wor
     known = λ b e s earlier p knows counts.
         let line = line_of (λ before t. IsAt r.setting.anchors before t b) p in
         not_above e (counted e s earlier (knew p.earlier p.served line earlier s knows) counts.counts) p.earlier p.served line;
-    begun = λ b y e s earlier p knows counts. absurd (begun_first (λ before t. PrintsBegunVersion r.setting.anchors t b y) p b y p.so s
-        earlier knows);
+    begun = λ b d y e s earlier p knows counts. absurd (begun_first (λ before t. Begins r.setting.anchors t b y) p b y p.so s earlier knows);
+    draws = λ b d y z s earlier p knows began. absurd (begun_first (λ before t. Begins r.setting.anchors t b y) p b y p.so s earlier knows);
   }
 
   no_part : (y : ℕ) → LineIn crew (λ before t. PrintsPart t y) → ⊥

@@ -24,7 +24,7 @@ in_front {A} x (z ∷ xs) ys h = ⊎_elim
     (cons_contains z x xs h)
 
 -- what a test lets through was in the list
-of_filter : (p : Line → Bool) (lines : List Line) (line : Line) → Contains (filter p lines) line → Contains lines line
+pub of_filter : (p : Line → Bool) (lines : List Line) (line : Line) → Contains (filter p lines) line → Contains lines line
 of_filter p [] line h = absurd (contains_none line h)
 of_filter p (l ∷ lines) line h = by_test (p l) h (of_filter p lines line)
   where

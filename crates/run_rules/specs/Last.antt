@@ -38,11 +38,11 @@ module _ {X : Type 0} (r : Run X) (crew : List Worker) (last : ℕ → ℕ) wher
     -- It is at CLOSED only where a line of its writing printed STORED.
     pub stored : (a : ℕ) → a < r.setting.anchors → opening_counter r.setting < last_version a → IsAtStage Closed (last_epoch a)
         → StoredIn r crew a (last_version a)
-    -- A doomed one was purged by a line.
+    -- A doomed one was purged or wiped by a line.
     pub purged : (a : ℕ) → a < r.setting.anchors → IsDoomed (last_epoch a) → PurgedIn r crew a (last_version a)
     -- One at GONE that is not doomed was given up in its writing; or the run does not fit, it was whole, and some line may have evicted it.
     pub given_back : (a : ℕ) → a < r.setting.anchors → IsAtStage Gone (last_epoch a) → IsUndoomed (last_epoch a)
         → GivenBackIn r crew a (last_version a)
-    -- In a run that fits it is none of the opening: the file's entries stand, but where lines purged or replaced them.
+    -- In a run that fits it is none of the opening: the file's entries stand, but where lines purged, wiped or replaced them.
     pub given_back_new : IsTrue r.fits → (a : ℕ) → a < r.setting.anchors → IsAtStage Gone (last_epoch a) → IsUndoomed (last_epoch a)
         → opening_counter r.setting < last_version a

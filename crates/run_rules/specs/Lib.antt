@@ -7,5 +7,6 @@ pub mod Last
 pub mod Left
 pub mod Standing
 pub mod Plain
+pub mod Private
 pub mod Served
 pub mod Lawful

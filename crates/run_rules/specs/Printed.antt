@@ -69,6 +69,6 @@ module _ {X : Type 0} (r : Run X) (slot anchors : ℕ) (images : List (List ℕ)
     -- a printed key is that of the URL of the file's winner at the anchor
     pub printed : (a : ℕ) (epoch : Epoch) (key : List ℕ) → KeyIn r crew a epoch key
         → version_of (epoch_number epoch) ≤ opening_counter r.setting → IsKeyOfWinner a key
-    -- and so is the key of the URL for which OPEN, HIT, PURGED or the PART of a `get` tells of an entry
+    -- and so is the key of the URL for which OPEN, HIT, PURGED, WIPED, LATER or the PART of a `get` tells of an entry
     pub found : (a x : ℕ) (url : List ℕ) → LineIn crew (λ earlier s. Finds r.setting.anchors s a x url)
         → x ≤ opening_counter r.setting → IsKeyOfWinner a (key_of url)

@@ -6,6 +6,7 @@ use Rattle.script_text.specs.declared.line.Line.{Line}
 use Rattle.rock_disk.specs.Counts.{Counts}
 use Rattle.run_rules.specs.Last.{AreLastWords}
 use Rattle.run_rules.specs.Plain.{EndedPlainly, IsAnsweredPlainly, NoneFailedServing}
+use Rattle.run_rules.specs.Private.{AreAnsweredAlone}
 use Rattle.run_rules.specs.Printed.{AreKeysOfWinners, AreResponses}
 use Rattle.run_rules.specs.Runs.{IsExplained}
 use Rattle.run_rules.specs.Standing.{LeavesStanding}
@@ -29,3 +30,6 @@ pub record WasServed (tells : Bool) (before after : Files) (name : List ℕ) (sl
   -- With one worker whose station met no fault the answers, the entries and the words are those of a plain store.
   pub plain : workers ≡ 1 → IsTrue tells → NoneFailedServing counts_before counts_after
       → (plainly : IsAnsweredPlainly before after name slot anchors script answers) × EndedPlainly last plainly
+  -- So are, with any number of workers, the answers to a worker that is alone at its anchors and whose station met no fault, but for the
+  -- numbers of versions, where the script fits into the file.
+  pub private : IsTrue tells → AreAnsweredAlone before name slot anchors workers script answers counts_before counts_after

@@ -1,21 +1,23 @@
 -- Which entries stood closed when a run came to its end, and what the file that was given back has of them, as it is and after a
 -- crash.
-use Rattle.std.specs.Prelude.{◌-◌, ◌<◌, ◌≡◌, ◌⊎◌, ℕ, Contains, List, Some, false, map}
+use Rattle.std.specs.Prelude.{◌-◌, ◌<◌, ◌≡◌, ◌≢◌, ◌⊎◌, ℕ, Contains, List, Some, false, map}
 use mathlib.Core.Option.{some}
 use lib.ListN.{get_elem?}
 use Rattle.lock_word.specs.Words.{epoch_of, version_of}
+use Rattle.lock_word.specs.declared.epoch.Epoch.{Epoch}
 use Rattle.store_key.specs.Anchor.{anchor_of}
 use Rattle.store_key.specs.Key.{key_of}
 use Rattle.rock_disk.specs.Cell.{CellState}
 use Rattle.rock_disk.specs.Crash.{IsCrashImage}
 use Rattle.rock_disk.specs.File.{Files}
-use Rattle.rebuild_model.specs.Entry.{Entry}
+use Rattle.rebuild_model.specs.Entry.{Entry, IsComplete}
+use Rattle.rebuild_model.specs.Image.{IsGreatest}
 use Rattle.rebuild_model.specs.Rebuilt.{IsWinner}
 use Rattle.script_text.specs.declared.answer.Answer.{Answer}
-use Rattle.script_text.specs.declared.answer.Answer.TheVariants.{Stored}
+use Rattle.script_text.specs.declared.answer.Answer.TheVariants.{Stored, Wiped}
 use Rattle.script_text.specs.declared.body.Body.{Body}
 use Rattle.script_text.specs.declared.line.Line.{Line}
-use Rattle.script_text.specs.declared.request.Request.TheVariants.{Save}
+use Rattle.script_text.specs.declared.request.Request.TheVariants.{Save, Wipe}
 use Rattle.plain_model.specs.declared.entry.Entry.{Entry as PlainEntry}
 use Rattle.plain_model.specs.declared.entry.Life.TheVariants.{Whole}
 use Rattle.plain_model.specs.declared.store.Plain.{Plain}
@@ -104,6 +106,12 @@ pub record LeavesStanding (before after : Files) (name : List ℕ) (slot anchors
       → IsAtStage Closed (epoch_of (last (anchor_of (key_of url) anchors)))
       → (crashed : List (List ℕ)) → IsCrashImage file.cells crashed
       → KeepsAt slot anchors crashed (anchor_of (key_of url) anchors) version url (bytes_of body)
+  -- Nothing that a crash may leave of it has a complete entry of a version that a `wipe` line was answered WIPED with, where that is above
+  -- each version of the file before.
+  pub wiped : (line : Line) (url : List ℕ) (epoch : Epoch) (greatest : ℕ) → Contains script line → line.request ≡ Wipe url
+      → IsAnswered answers line (Wiped epoch)
+      → IsGreatest slot (images_of slot file.was) greatest → greatest < epoch.version
+      → (crashed : List (List ℕ)) → IsCrashImage file.cells crashed → (e : Entry) → IsComplete slot crashed e → e.version ≢ epoch.version
 
 -- By the plain store.
 

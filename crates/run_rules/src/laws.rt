@@ -1,6 +1,6 @@
 // What a run printed is explained. The function here does nothing: the proof of a function that calls it may use what it
 // ensures.
-ghost use Rattle.std.specs.Prelude.{Bool, Contains, IsTrue, List, length, sum_by, ◌<◌, ◌≡◌, ◌≤◌, ℕ};
+ghost use Rattle.std.specs.Prelude.{All, Bool, Contains, IsTrue, List, length, sum_by, ◌<◌, ◌≡◌, ◌≤◌, ℕ};
 ghost use Rattle.core_model.specs.State.{word};
 ghost use Rattle.db_layout.specs.Layout.{IsSlotSize};
 ghost use Rattle.rock_disk.specs.File.{Files};
@@ -11,6 +11,11 @@ ghost use Rattle.rock_disk.specs.Counts.{Counts};
 ghost use Rattle.rock_run.specs.Runs.{HasRun};
 ghost use Rattle.run_rules.specs.Last.{AreLastWords};
 ghost use Rattle.run_rules.specs.Plain.{AreInOrder, EndedPlainly, IsAnsweredPlainly, NoneFailedServing};
+ghost use Rattle.plain_model.specs.Serving.{fresh};
+ghost use Rattle.plain_laws.specs.Fitting.{Fits};
+ghost use Rattle.plain_runs.specs.Runs.{setting_over};
+ghost use Rattle.run_rules.specs.Fitting.{FitsInto};
+ghost use Rattle.run_rules.specs.Private.{AreAnsweredAlone};
 ghost use Rattle.run_rules.specs.Runs.{IsExplained};
 
 use core_model::idle_stores_are_settled;
@@ -20,14 +25,19 @@ use crew_accounts::{
     saved_entries_stay_known,
 };
 use line_account::closed_crews_keep_the_rules;
+use plain_laws::{
+    anchors_hold_slots_of_the_file, fitting_scripts_have_room, unwritten_slots_have_no_entry,
+};
 use plain_runs::{
     closed_words_are_plain, lone_runs_are_plain, new_passes_show_plain_stores,
-    whole_entries_stand_closed,
+    private_runs_are_plain, whole_entries_stand_closed,
 };
 use rebuild_model::{one_entry_at_a_slot, one_winner_at_an_anchor};
 use rock_disk::{Cell, Station, opened_slots_are_wide_and_few};
 use rock_io::Octets;
 use rock_run::ScriptOrigin;
+use store_key::keys_have_16_bytes;
+use swap_meta::written_meta_is_spelled;
 
 /// What `run_script` ensures of a run that came to its end (`HasRun`), in the words of what it prints: there is one answer
 /// for each line of the script, the lines keep all rules, and their URLs, bodies and keys are those of the file and of the
@@ -72,6 +82,39 @@ pub fn lone_runs_are_answered_plainly<C: Cell, St: Station<C = C>>()
     closed_entries_are_of_lines::<C, ScriptOrigin, St>();
     one_entry_at_a_slot();
     opened_slots_are_wide_and_few();
+}
+
+/// In a run over a file that the volume tells, each worker that is alone at its anchors, and whose station met no fault, is answered as by
+/// a plain store of its own that is opened on the file, but for the numbers of versions, where the script fits into the file. Each line of
+/// the script has the number behind its place.
+pub fn private_lines_are_answered_plainly<C: Cell, St: Station<C = C>>()
+    ensures { (tells : Bool) (files left : Files) (name : List ℕ) (slot anchors workers : ℕ) (script : List Line)
+        (answers : List (List (ℕ × Answer))) (before after : Counts)
+        → IsSlotSize slot → AreInOrder script
+        → HasRun tells C.tells C.state files left name slot anchors workers script St.faults answers before after
+        → IsTrue tells → AreAnsweredAlone files name slot anchors workers script answers before after }
+{
+    runs_keep_the_rules::<C, St>();
+    new_passes_show_plain_stores::<C, ScriptOrigin>();
+    private_runs_are_plain::<C, ScriptOrigin, St>();
+    opened_stores_have_runs::<C, ScriptOrigin>();
+    fitting_scripts_have_room();
+    anchors_hold_slots_of_the_file();
+    one_winner_at_an_anchor();
+    written_meta_is_spelled();
+    keys_have_16_bytes();
+    opened_slots_are_wide_and_few();
+}
+
+/// A script fits into a file that was never written where it fits into the plain store that is opened on it.
+pub fn scripts_fit_into_unwritten_files()
+    ensures { (slot anchors : ℕ) (images : List (List ℕ)) (script : List Line) → IsSlotSize slot
+        → All (λ image. All (λ b. b ≡ 0) image) images
+        → Fits (setting_over slot anchors (length images)) script (fresh anchors) → FitsInto slot anchors images script }
+{
+    unwritten_slots_have_no_entry();
+    written_meta_is_spelled();
+    keys_have_16_bytes();
 }
 
 /// Each line of a script that was read has the number behind its place.

@@ -17,8 +17,8 @@ pub use absurd::{
 pub use crashes::closed_runs_leave_responses;
 pub use lawful::a_put_and_a_get_keep_the_rules;
 pub use laws::{
-    each_line_has_one_answer, lone_runs_are_answered_plainly, read_lines_are_numbered,
-    runs_keep_the_rules,
+    each_line_has_one_answer, lone_runs_are_answered_plainly, private_lines_are_answered_plainly,
+    read_lines_are_numbered, runs_keep_the_rules, scripts_fit_into_unwritten_files,
 };
 pub use served::finished_runs_were_served;
 pub use standing::runs_leave_standing;

@@ -9,7 +9,9 @@ ghost use Rattle.rock_run.specs.Runs.{HasRun};
 ghost use Rattle.run_rules.specs.Plain.{AreInOrder};
 ghost use Rattle.run_rules.specs.Served.{WasServed};
 
-use crate::laws::{lone_runs_are_answered_plainly, runs_keep_the_rules};
+use crate::laws::{
+    lone_runs_are_answered_plainly, private_lines_are_answered_plainly, runs_keep_the_rules,
+};
 use crate::standing::runs_leave_standing;
 use rock_disk::{Cell, Station};
 
@@ -26,4 +28,5 @@ pub fn finished_runs_were_served<C: Cell, St: Station<C = C>>()
     runs_keep_the_rules::<C, St>();
     runs_leave_standing::<C, St>();
     lone_runs_are_answered_plainly::<C, St>();
+    private_lines_are_answered_plainly::<C, St>();
 }

@@ -6,7 +6,7 @@ use Rattle.script_text.specs.declared.body.Body.{Body}
 use Rattle.script_text.specs.Shapes.{Shape, shape_of}
 use Rattle.script_text.specs.Fields.Kind.{TabWord, UrlWord, BodyWord, CountWord, MarkWord}
 use Rattle.script_text.specs.declared.request.Request.{Request}
-use Rattle.script_text.specs.declared.request.Request.TheVariants.{Put, Save, Get, Purge, Begin, Add, End, DropTab, OpenTab, More, CloseTab, Mark, Await}
+use Rattle.script_text.specs.declared.request.Request.TheVariants.{Put, Save, Get, Purge, Wipe, Begin, Add, End, DropTab, OpenTab, More, CloseTab, Mark, Await}
 use Rattle.script_text.specs.declared.verb.Verb.{Verb}
 use Rattle.script_text.specs.declared.verb.Verb.TheVariants as verb
 
@@ -16,6 +16,7 @@ name_of verb.Put = codes "put"
 name_of verb.Save = codes "save"
 name_of verb.Get = codes "get"
 name_of verb.Purge = codes "purge"
+name_of verb.Wipe = codes "wipe"
 name_of verb.Begin = codes "begin"
 name_of verb.Add = codes "add"
 name_of verb.End = codes "end"
@@ -31,6 +32,7 @@ kinds_of verb.Put = UrlWord ∷ BodyWord ∷ []
 kinds_of verb.Save = UrlWord ∷ BodyWord ∷ []
 kinds_of verb.Get = UrlWord ∷ []
 kinds_of verb.Purge = UrlWord ∷ []
+kinds_of verb.Wipe = UrlWord ∷ []
 kinds_of verb.Begin = TabWord ∷ UrlWord ∷ BodyWord ∷ []
 kinds_of verb.Add = TabWord ∷ CountWord ∷ []
 kinds_of verb.End = TabWord ∷ []
@@ -84,6 +86,7 @@ SpellsRequest (Put url body) name words = (name ≡ verb.Put) × AreUrlAndBody u
 SpellsRequest (Save url body) name words = (name ≡ verb.Save) × AreUrlAndBody url body words
 SpellsRequest (Get url) name words = (name ≡ verb.Get) × AreUrl url words
 SpellsRequest (Purge url) name words = (name ≡ verb.Purge) × AreUrl url words
+SpellsRequest (Wipe url) name words = (name ≡ verb.Wipe) × AreUrl url words
 SpellsRequest (Begin tab url body) name words = (name ≡ verb.Begin) × AreTabUrlAndBody tab url body words
 SpellsRequest (Add tab count) name words = (name ≡ verb.Add) × AreTabAndCount tab count words
 SpellsRequest (End tab) name words = (name ≡ verb.End) × AreTab tab words

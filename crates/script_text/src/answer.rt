@@ -36,6 +36,10 @@ pub enum Answer {
     Miss { cause: Cause },
     /// An entry was purged.
     Purged { epoch: Epoch },
+    /// An entry was purged, and is erased on the disk.
+    Wiped { epoch: Epoch },
+    /// It was purged, and others still use it, so that it is not erased.
+    Later { epoch: Epoch },
     /// No entry can be purged.
     NoEntry { cause: Cause },
     /// Writing began.

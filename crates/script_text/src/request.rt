@@ -12,6 +12,8 @@ pub enum Request {
     Get { url: Octets },
     /// Take a response out of use.
     Purge { url: Octets },
+    /// Take it out of use, and erase it on the disk.
+    Wipe { url: Octets },
     /// Begin to write a response on a tab.
     Begin { tab: u8, url: Octets, body: Body },
     /// Add the next bytes of its body.

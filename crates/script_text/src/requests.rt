@@ -31,6 +31,9 @@ pub fn request_of(alloc: Global, name: Verb, fields: &[&[u8]]) -> Result<Request
         Verb::Purge => Ok(Request::Purge {
             url: url_alone(alloc, fields)?,
         }),
+        Verb::Wipe => Ok(Request::Wipe {
+            url: url_alone(alloc, fields)?,
+        }),
         Verb::Begin => {
             let (tab, url, body) = tab_url_and_body(alloc, fields)?;
             Ok(Request::Begin { tab, url, body })

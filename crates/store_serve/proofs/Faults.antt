@@ -3,6 +3,10 @@ use Rattle.std.proofs.Common.{List, false, refl, subst, sym, true, ◌≡◌, �
 use Rattle.std.specs.Prelude.{Err, IsErrOf, Ok, Result, ◌≢◌}
 use Rattle.rock_io.specs.Faults.{Rose}
 use Rattle.script_text.specs.declared.answer.Answer.{Answer}
+use Rattle.purge_entry.specs.declared.wiping.Wiped.{Wiped}
+use Rattle.purge_entry.specs.declared.wiping.Wiped.TheVariants.{Gone, Later}
+use Rattle.purge_entry.specs.declared.wiping.WipeFault.{WipeFault}
+use Rattle.purge_entry.specs.declared.wiping.WipeFault.TheVariants.{NoEntry}
 use Rattle.rock_writer.specs.declared.fault.BeginFault.TheVariants.{Busy, LongUrl, Spent}
 use Rattle.rock_writer.specs.declared.fault.Ended.{Ended}
 use Rattle.rock_writer.specs.declared.fault.Ended.TheVariants.{Doomed, Stored}
@@ -15,7 +19,7 @@ use Rattle.store_serve.specs.declared.getting.Got.TheVariants.{Found, Missing}
 use Rattle.store_serve.specs.declared.storing.PutFault.{PutFault}
 use Rattle.store_serve.specs.declared.storing.PutFault.TheVariants.{Begin, Write}
 use Rattle.store_serve.specs.Getting.{EndedWith}
-use Rattle.store_serve.specs.Answers.{AnswersGet, AnswersMore, TellsFaults, answer_to_end, answer_to_fault, answer_to_put, is_fault}
+use Rattle.store_serve.specs.Answers.{AnswersGet, AnswersMore, TellsFaults, answer_to_end, answer_to_fault, answer_to_put, answer_to_wipe, is_fault}
 
 -- no fault is told, and none came
 tells_none : (a : Answer) (before after : ℕ) → is_fault a ≡ false → after ≡ before → TellsFaults a before after
@@ -54,6 +58,12 @@ faults_of_put (Err (Begin (Spent versions))) before after same rose = tells_none
 faults_of_put (Err (Write write.Large)) before after same rose = tells_none _ before after refl (same (λ w. cc))
 faults_of_put (Err (Write write.Full)) before after same rose = tells_none _ before after refl (same (λ w. cc))
 faults_of_put (Err (Write write.Fault)) before after same rose = tells_one _ before after refl (rose refl)
+
+pub faults_of_wipe : (r : Result Wiped WipeFault) (before after : ℕ) → ((IsErrOf r WipeFault.Fault → ⊥) → after ≡ before) → (IsErrOf r WipeFault.Fault → Rose before after) → TellsFaults (answer_to_wipe r) before after
+faults_of_wipe (Ok (Gone epoch)) before after same rose = tells_none _ before after refl (same (λ w. cc))
+faults_of_wipe (Ok (Later epoch)) before after same rose = tells_none _ before after refl (same (λ w. cc))
+faults_of_wipe (Err (NoEntry cause)) before after same rose = tells_none _ before after refl (same (λ w. cc))
+faults_of_wipe (Err WipeFault.Fault) before after same rose = tells_one _ before after refl (rose refl)
 
 pub faults_of_more : (why : More) (bytes : List ℕ) (a : Answer) (before after : ℕ) → AnswersMore why bytes a → (why ≡ more.Fault → Rose before after) → (why ≢ more.Fault → after ≡ before) → TellsFaults a before after
 faults_of_more (more.Piece count) bytes a before after is rose same = absurd is

@@ -114,6 +114,18 @@ module _ {C O : Type 0} (tells : Bool) (state : C → CellState) (offers : O →
     cells = b.cells ∙ a.cells;
   }
 
+  -- so does a call on the inner tab that works in its buffer
+  pub leaves_inner_reading : (p q : Pass C) → FollowsReader tells state offers s inner p q → InnerIsFree (view q) → GrowsTo (view p) (view q) → Leaves tells state offers s t p q
+  leaves_inner_reading p q f free keeps = record {
+    own = f.own;
+    inner_free = free;
+    others = λ j ne far. f.others j far far;
+    desks = λ j ne far. f.desks j far far;
+    keeps = keeps;
+    places = f.places;
+    cells = f.cells;
+  }
+
   -- a call on the inner tab alone leaves each tab of the script
   pub leaves_inner : (p q : Pass C) → FollowsTab tells state offers s inner p q → InnerIsFree (view q) → GrowsTo (view p) (view q) → Leaves tells state offers s t p q
   leaves_inner p q f free keeps = record {

@@ -17,6 +17,7 @@ pub mod Slots
 pub mod Writers
 pub mod Readers
 pub mod Purges
+pub mod Wipes
 pub mod Serving
 pub mod StandingReaders
 pub mod AddingUp
@@ -26,5 +27,6 @@ pub mod EntryTabs
 pub mod WriterDeeds
 pub mod ReaderDeeds
 pub mod PurgeDeeds
+pub mod WipeDeeds
 pub mod ServingDeeds
 pub mod Counts

@@ -5,7 +5,7 @@ use Rattle.lock_word.specs.Words.{evicted, raised}
 use Rattle.core_model.specs.AnchorMoves.{deed_of}
 use Rattle.core_model.specs.Layout.{Setting}
 use Rattle.core_model.specs.TableForms.{with_hold, with_wiper}
-use Rattle.core_model.specs.Tabs.{tab_at}
+use Rattle.core_model.specs.Tabs.{inner, tab_at}
 use Rattle.core_model.specs.Trails.{draws, is_draw}
 use Rattle.core_model.specs.declared.tab.Cell.{Cell}
 use Rattle.core_model.specs.declared.tab.Freer.{Freer}
@@ -25,6 +25,7 @@ use Rattle.slice_chain.specs.Links.{Linked, Located, Published, PublishedFirst, 
 use Rattle.slice_chain.specs.Names.{KeyLoaded, Named}
 use Rattle.slice_chain.specs.Reads.{ReadSlot}
 use Rattle.slice_chain.specs.Victims.{Evicted, NoneIdle, onward}
+use Rattle.slice_chain.specs.Wiping.{WipedFirst, WipedSlot}
 use Rattle.slice_chain.specs.Writes.{WroteSlot}
 use Rattle.store_serve.specs.Acting.{Acted}
 use Rattle.store_serve.specs.Deeds.{Evicts, IsGone, OfReserving}
@@ -91,6 +92,13 @@ module _ {X : Type 0} {g : Ground X} where
 
   pub key_loaded : {P : Deed → Type 0} {t : ℕ} {key : List ℕ} {v w : View X} → KeyLoaded g t v key w → Acted None P v w
   key_loaded h = on (quiet_step h.front refl refl) (quiet_step h.back refl refl)
+
+module _ {X : Type 0} (g : Ground X) {P : Deed → Type 0} where
+  wiped_slot : {slot : ℕ} {done : Bool} {v w : View X} → WipedSlot g slot v done w → Acted None P v w
+  wiped_slot {slot} h = on (on (quiet_step h.tried refl refl) (returned g.setting (tab_at h.middle inner) inner slot h.cell h.middle h.from h.returned)) (quiet_step h.ended refl refl)
+
+  pub wiped_first : {done : Bool} {v w : View X} → WipedFirst g v done w → Acted None P v w
+  wiped_first h = on (quiet_step h.loads refl refl) (wiped_slot h.wiped)
 
 module _ {X : Type 0} (g : Ground X) (t : ℕ) {P : Deed → Type 0} where
   published_first : {slot : ℕ} {link : Link} {v w : View X} → PublishedFirst g t slot link v w → Acted None P v w

@@ -3,7 +3,7 @@ use Rattle.std.proofs.Common.{Bool, List, Option, inl, inr, refl, subst, sym, �
 use Rattle.link_word.specs.declared.link.Link.{Link}
 use Rattle.core_model.specs.Layout.{Setting}
 use Rattle.core_model.specs.TableForms.{with_hold, with_wiper}
-use Rattle.core_model.specs.Tabs.{tab_at}
+use Rattle.core_model.specs.Tabs.{inner, tab_at}
 use Rattle.core_model.specs.declared.tab.Cell.{Cell}
 use Rattle.core_model.specs.declared.tab.Freer.{Freer}
 use Rattle.core_model.specs.declared.tab.Hold.{Hold}
@@ -19,6 +19,7 @@ use Rattle.slice_chain.specs.Links.{Linked, Located, Published, PublishedFirst, 
 use Rattle.slice_chain.specs.Names.{KeyLoaded, Named}
 use Rattle.slice_chain.specs.Reads.{ReadSlot}
 use Rattle.slice_chain.specs.Victims.{Evicted, NoneIdle}
+use Rattle.slice_chain.specs.Wiping.{WipedFirst, WipedSlot}
 use Rattle.slice_chain.specs.Writes.{WroteSlot}
 use Rattle.store_serve.specs.Growing.{GrowsTo}
 use Rattle.store_serve.proofs.Grown.{by_run, by_step, on, same}
@@ -56,6 +57,13 @@ module _ {X : Type 0} {g : Ground X} where
 
   pub key_loaded : {t : ℕ} {key : List ℕ} {v w : View X} → KeyLoaded g t v key w → GrowsTo v w
   key_loaded h = on (by_step h.front) (by_step h.back)
+
+module _ {X : Type 0} (g : Ground X) where
+  wiped_slot : {slot : ℕ} {done : Bool} {v w : View X} → WipedSlot g slot v done w → GrowsTo v w
+  wiped_slot {slot} h = on (by_step h.tried) (on (returned g.setting (tab_at h.middle inner) inner slot h.cell h.middle h.from h.returned) (by_step h.ended))
+
+  pub wiped_first : {done : Bool} {v w : View X} → WipedFirst g v done w → GrowsTo v w
+  wiped_first h = on (by_step h.loads) (wiped_slot h.wiped)
 
 module _ {X : Type 0} (g : Ground X) (t : ℕ) where
   published_first : {slot : ℕ} {link : Link} {v w : View X} → PublishedFirst g t slot link v w → GrowsTo v w

@@ -5,6 +5,10 @@ use Rattle.lock_word.specs.declared.cause.Cause.{Cause}
 use Rattle.lock_word.specs.declared.epoch.Epoch.{Epoch}
 use Rattle.script_text.specs.declared.answer.Answer.{Answer}
 use Rattle.script_text.specs.declared.answer.Answer.TheVariants as answer
+use Rattle.purge_entry.specs.declared.wiping.Wiped.{Wiped}
+use Rattle.purge_entry.specs.declared.wiping.Wiped.TheVariants.{Gone, Later}
+use Rattle.purge_entry.specs.declared.wiping.WipeFault.{WipeFault}
+use Rattle.purge_entry.specs.declared.wiping.WipeFault.TheVariants.{NoEntry}
 use Rattle.rock_writer.specs.declared.fault.BeginFault.{BeginFault}
 use Rattle.rock_writer.specs.declared.fault.BeginFault.TheVariants.{Busy, LongUrl, Spent}
 use Rattle.rock_writer.specs.declared.fault.Ended.{Ended}
@@ -59,6 +63,13 @@ answer_to_open (Err cause) = answer.Miss cause
 abbrev pub answer_to_purge : Result Epoch Cause → Answer
 answer_to_purge (Ok epoch) = answer.Purged epoch
 answer_to_purge (Err cause) = answer.NoEntry cause
+
+-- and of purging one on the disk too
+abbrev pub answer_to_wipe : Result Wiped WipeFault → Answer
+answer_to_wipe (Ok (Gone epoch)) = answer.Wiped epoch
+answer_to_wipe (Ok (Later epoch)) = answer.Later epoch
+answer_to_wipe (Err (NoEntry cause)) = answer.NoEntry cause
+answer_to_wipe (Err WipeFault.Fault) = answer.Fault
 
 -- Reading: the bytes were given, and reading on ended so, never with a piece.
 abbrev pub AnswersMore : More → List ℕ → Answer → Type 0

@@ -6,7 +6,7 @@ use Rattle.script_text.specs.Tabs.{UsesTab}
 use Rattle.script_text.specs.declared.answer.Answer.{Answer}
 use Rattle.script_text.specs.declared.line.Line.{Line}
 use Rattle.script_text.specs.declared.request.Request.{Request}
-use Rattle.script_text.specs.declared.request.Request.TheVariants.{Add, Await, Begin, CloseTab, DropTab, End, Get, Mark, More, OpenTab, Purge, Put, Save}
+use Rattle.script_text.specs.declared.request.Request.TheVariants.{Add, Await, Begin, CloseTab, DropTab, End, Get, Mark, More, OpenTab, Purge, Put, Save, Wipe}
 use Rattle.script_text.specs.Requests.{url_in}
 use Rattle.store_key.specs.Url.{IsUrl}
 use Rattle.store_rule.specs.declared.store.Pass.{Pass}
@@ -16,7 +16,7 @@ use Rattle.store_rule.specs.Passes.{basis}
 use Rattle.store_serve.specs.Answers.{TellsFaults}
 use Rattle.store_serve.specs.Reading.{ClosesOn, OpensOn, ReadsMore}
 use Rattle.store_serve.specs.Tabs.{IsOffered, Leaves, MayGo}
-use Rattle.store_serve.specs.Whole.{Gets, Purges, Puts, whole_tab}
+use Rattle.store_serve.specs.Whole.{Gets, Purges, Puts, Wipes, whole_tab}
 use Rattle.store_serve.specs.Writing.{AddsOn, BeginsOn, DropsOn, EndsOn}
 
 module _ {C O : Type 0} (tells : Bool) (state : C → CellState) (offers : O → Offers) (s : Store C O) where
@@ -51,6 +51,7 @@ module _ {C O : Type 0} (tells : Bool) (state : C → CellState) (offers : O →
     ServesRequest (Save url body) = Puts tells state offers s url p a q (offer_of number) true
     ServesRequest (Get url) = Gets tells state offers s url p a q
     ServesRequest (Purge url) = Purges tells state offers s url p a q
+    ServesRequest (Wipe url) = Wipes tells state offers s url p a q
     ServesRequest (Begin t url body) = BeginsOn tells state offers s t p a q (offer_of number) url
     ServesRequest (Add t count) = AddsOn tells state offers s t p a q count
     ServesRequest (End t) = EndsOn tells state offers s t p a q

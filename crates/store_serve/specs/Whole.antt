@@ -15,11 +15,14 @@ use Rattle.rock_writer.specs.Beginning.{IsTooLong}
 use Rattle.rock_writer.specs.Durable.{ClosedDurably}
 use Rattle.rock_writer.specs.declared.fault.Ended.{Ended}
 use Rattle.purge_entry.specs.Purging.{Purged}
+use Rattle.purge_entry.specs.Wiping.{FaultTells, WipedTells}
+use Rattle.purge_entry.specs.declared.wiping.Wiped.{Wiped}
+use Rattle.purge_entry.specs.declared.wiping.WipeFault.{WipeFault}
 use Rattle.store_serve.specs.Getting.{GotAs}
 use Rattle.store_serve.specs.Storing.{NotPut, PutWhole, StaysUnlessBegun, put_as}
 use Rattle.store_serve.specs.declared.getting.Got.{Got}
 use Rattle.store_serve.specs.declared.storing.PutFault.{PutFault}
-use Rattle.store_serve.specs.Answers.{AnswersGet, answer_to_purge, answer_to_put}
+use Rattle.store_serve.specs.Answers.{AnswersGet, answer_to_purge, answer_to_put, answer_to_wipe}
 use Rattle.store_serve.specs.Tabs.{IsFree}
 use Rattle.store_serve.specs.declared.whole.TheConstants.{WHOLE_TAB}
 
@@ -55,5 +58,14 @@ module _ {C O : Type 0} (tells : Bool) (state : C → CellState) (offers : O →
     pub answer_is : a ≡ answer_to_purge outcome
     pub purged : IfOk outcome (λ left. Purged (basis tells state offers s) inner url (view p) left (view q))
     pub refused : IfErr outcome (λ cause. Refused (basis tells state offers s) inner url (view p) cause (view q))
+    pub same : (view q).tabs ≡ (view p).tabs
+    pub stays : q.hand ≡ p.hand
+
+  -- it was purged on the disk too, or in the table alone, or there was none, or the station failed
+  pub record Wipes : Type 0 where
+    pub outcome : Result Wiped WipeFault
+    pub answer_is : a ≡ answer_to_wipe outcome
+    pub wiped : IfOk outcome (WipedTells (basis tells state offers s) url (view p) (view q))
+    pub refused : IfErr outcome (FaultTells (basis tells state offers s) url (view p) (view q))
     pub same : (view q).tabs ≡ (view p).tabs
     pub stays : q.hand ≡ p.hand

@@ -22,6 +22,7 @@ ghost use Rattle.rock_reader.specs.Opening.{OpenedEntry, Refused};
 ghost use Rattle.rock_reader.specs.Reading.{Gave, Standing};
 ghost use Rattle.rock_reader.specs.declared.answer.More.{More};
 ghost use Rattle.purge_entry.specs.Purging.{Purged};
+ghost use Rattle.purge_entry.specs.Wiping.{LeftToOthers, WipedAsLast};
 ghost use Rattle.store_serve.specs.Adding.{Added, NotAdded};
 ghost use Rattle.store_serve.specs.Following.{GaveSome, WentOn};
 ghost use Rattle.store_serve.specs.Getting.{GotAs, StoppedGetting};
@@ -73,6 +74,14 @@ pub fn purging_acts<X>()
         → Acted None (OfPurging (anchor_for g url) (epoch_number left)) v w }
     ensures refused { (g : Ground X) (t : ℕ) (url : List ℕ) (cause : Cause) (v w : View X) → Refused g t url v cause w
         → Acted None (OfVisiting (anchor_for g url)) v w }
+{}
+
+/// Nor does one on the disk draw. It does what a purge does, and nothing else to an anchor.
+pub fn wiping_acts<X>()
+    ensures last { (g : Ground X) (t : ℕ) (url : List ℕ) (done : Bool) (left : Epoch) (v w : View X) → WipedAsLast g t url done v left w
+        → Acted None (OfPurging (anchor_for g url) (epoch_number left)) v w }
+    ensures later { (g : Ground X) (t : ℕ) (url : List ℕ) (left : Epoch) (v w : View X) → LeftToOthers g t url v left w
+        → Acted None (OfPurging (anchor_for g url) (epoch_number left)) v w }
 {}
 
 /// What the calls of which requests are made draw and do is what those of the writer and the reader do, one behind

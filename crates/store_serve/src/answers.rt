@@ -2,11 +2,12 @@
 ghost use Rattle.std.specs.Prelude.{◌≡◌, ◌≢◌, ℕ};
 ghost use Rattle.rock_reader.specs.declared.answer.More.TheVariants.{Piece};
 ghost use Rattle.store_serve.specs.declared.getting.Got.TheVariants.{Found};
-ghost use Rattle.store_serve.specs.Answers.{AnswersGet, AnswersMore, AnswersWhole, answer_to_end, answer_to_ended, answer_to_fault, answer_to_open, answer_to_purge, answer_to_put, answer_to_refusal};
+ghost use Rattle.store_serve.specs.Answers.{AnswersGet, AnswersMore, AnswersWhole, answer_to_end, answer_to_ended, answer_to_fault, answer_to_open, answer_to_purge, answer_to_put, answer_to_refusal, answer_to_wipe};
 
 use crate::getting::Got;
 use crate::storing::PutFault;
 use lock_word::{Cause, Epoch};
+use purge_entry::{WipeFault, Wiped};
 use rock_io::Octets;
 use rock_reader::More;
 use rock_writer::{BeginFault, Ended, WriteFault};
@@ -82,6 +83,18 @@ pub(crate) fn purged(outcome: Result<Epoch, Cause>) -> Answer
     match outcome {
         Ok(epoch) => Answer::Purged { epoch },
         Err(cause) => Answer::NoEntry { cause },
+    }
+}
+
+/// What came of purging one on the disk too.
+pub(crate) fn wiped(outcome: Result<Wiped, WipeFault>) -> Answer
+    ensures { result ≡ answer_to_wipe outcome }
+{
+    match outcome {
+        Ok(Wiped::Gone { epoch }) => Answer::Wiped { epoch },
+        Ok(Wiped::Later { epoch }) => Answer::Later { epoch },
+        Err(WipeFault::NoEntry { cause }) => Answer::NoEntry { cause },
+        Err(WipeFault::Fault) => Answer::Fault,
     }
 }
 

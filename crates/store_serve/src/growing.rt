@@ -26,6 +26,7 @@ ghost use Rattle.rock_reader.specs.Reading.{Gave, ReadsAs, Standing};
 ghost use Rattle.rock_reader.specs.Wanted.{SameDesk};
 ghost use Rattle.rock_reader.specs.declared.answer.More.{More};
 ghost use Rattle.purge_entry.specs.Purging.{Purged};
+ghost use Rattle.purge_entry.specs.Wiping.{LeftToOthers, WipedAsLast};
 ghost use Rattle.store_serve.specs.Growing.{GrowsTo};
 ghost use Rattle.store_serve.specs.Adding.{Added as BytesAdded, NotAdded};
 ghost use Rattle.store_serve.specs.Following.{GaveSome, WentOn};
@@ -75,6 +76,13 @@ pub fn reading_grows<C: Cell, O: Origin>()
 pub fn purging_grows<X>()
     ensures purged { (g : Ground X) (t : ℕ) (url : List ℕ) (left : Epoch) (v w : View X) → Purged g t url v left w → GrowsTo v w }
     ensures refused { (g : Ground X) (t : ℕ) (url : List ℕ) (cause : Cause) (v w : View X) → Refused g t url v cause w → GrowsTo v w }
+{}
+
+/// At each answer of a purge on the disk: where it was the last user of the entry, and wiped its first slot or failed at
+/// that, and where it left the entry to others. Of a refusal `purging_grows` says it.
+pub fn wiping_grows<X>()
+    ensures last { (g : Ground X) (t : ℕ) (url : List ℕ) (done : Bool) (left : Epoch) (v w : View X) → WipedAsLast g t url done v left w → GrowsTo v w }
+    ensures later { (g : Ground X) (t : ℕ) (url : List ℕ) (left : Epoch) (v w : View X) → LeftToOthers g t url v left w → GrowsTo v w }
 {}
 
 /// At each answer of a call of which requests are made: where bytes were added or not, an entry was ended or not, a

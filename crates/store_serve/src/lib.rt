@@ -19,18 +19,19 @@ mod tabs;
 mod whole;
 mod writing;
 
-pub use acting::{purging_acts, reading_acts, serving_acts, writing_acts};
+pub use acting::{purging_acts, reading_acts, serving_acts, wiping_acts, writing_acts};
 pub use adding::add_bytes;
 pub use bodies::body_length;
 pub use following::read_on;
 pub use getting::{Got, get_entry};
 pub use growing::{
-    growing_adds_up, purging_grows, readers_stay, reading_grows, serving_grows, writing_grows,
+    growing_adds_up, purging_grows, readers_stay, reading_grows, serving_grows, wiping_grows,
+    writing_grows,
 };
 pub use laws::{requests_keep_other_tabs, tabs_write_one_entry};
 pub use reading::{close_tab, open_tab, read_more};
 pub use showing::writers_see_their_slots;
 pub use storing::{PutFault, end_entry, put_entry};
 pub use tabs::{ScriptTab, Told};
-pub use whole::{WHOLE_TAB, get_whole, purge_url, put_whole};
+pub use whole::{WHOLE_TAB, get_whole, purge_url, put_whole, wipe_url};
 pub use writing::{add_to_tab, begin_on_tab, drop_tab, end_tab};

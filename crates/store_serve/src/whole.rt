@@ -4,13 +4,13 @@ ghost use Rattle.slot_cell.specs.declared.header.TheConstants.{HEADER_SIZE};
 ghost use Rattle.store_rule.specs.Passes.{basis};
 ghost use Rattle.store_serve.specs.Answers.{TellsFaults, is_fault};
 ghost use Rattle.store_serve.specs.Tabs.{IsFree, IsOffered, IsReady, Leaves, MayGo};
-ghost use Rattle.store_serve.specs.Whole.{Gets, Purges, Puts, whole_tab};
+ghost use Rattle.store_serve.specs.Whole.{Gets, Purges, Puts, Wipes, whole_tab};
 
-use crate::answers::{got, purged, stored};
+use crate::answers::{got, purged, stored, wiped};
 use crate::getting::get_entry;
 use crate::storing::put_entry;
 use crate::{purging_grows, serving_grows};
-use purge_entry::purge;
+use purge_entry::{purge, purge_durable};
 use rock_disk::{Cell, Station};
 use rock_io::{Memory, Octets};
 use script_text::{Answer, Body};
@@ -89,4 +89,21 @@ pub fn purge_url<C: Cell, O: Origin>(store: &Store<C, O>, pass: &mut Pass<C>, ur
     purging_grows::<Octets>();
     let outcome = purge(store, pass, url);
     purged(outcome)
+}
+
+/// Purges it, and where nobody else uses it erases it on the disk.
+pub fn wipe_url<C: Cell, O: Origin, St: Station<C = C>>(
+    store: &Store<C, O>,
+    pass: &mut Pass<C>,
+    station: &mut St,
+    url: &[u8],
+) -> Answer
+    requires ready { IsReady C.tells C.state O.offers store.now pass.old }
+    requires name { MayGo C.tells C.state O.offers store.now pass.old url.now }
+    ensures served { Wipes C.tells C.state O.offers store.now url.now pass.old result pass.new }
+    ensures leaves { (t : ℕ) → Leaves C.tells C.state O.offers store.now t pass.old pass.new }
+    ensures faults { TellsFaults result (St.faults station.old) (St.faults station.new) }
+{
+    let outcome = purge_durable(store, pass, station, url);
+    wiped(outcome)
 }

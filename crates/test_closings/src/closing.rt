@@ -18,7 +18,7 @@ use worker_shelf::WorkerShelf;
 
 /// Serves the lines of a script on the first pass of a store, in their order, but for those of marks, and leaves all tabs. A line for
 /// which memory is wanting is passed over.
-fn serve_all<R: Wait, C: Cell + Send, St: Station<C = C>>(
+pub(crate) fn serve_all<R: Wait, C: Cell + Send, St: Station<C = C>>(
     rt: &R,
     alloc: Global,
     store: &Store<C, ScriptOrigin>,

@@ -2,5 +2,8 @@
 #![tactic(auto)]
 
 mod closing;
+mod pages;
 #[cfg(test)]
 mod rows;
+#[cfg(test)]
+mod taken;

@@ -5,9 +5,11 @@ ghost use Rattle.rock_disk.specs.Memory.{volume_files};
 ghost use Rattle.rock_run.specs.Scripts.{MayBeServed};
 
 use crate::closing::left_by;
+use crate::pages::served_in_pages;
+use page_pool::Pool;
 use rock_disk::MemVolume;
 use rock_io::MemSource;
-use rock_open::Counted;
+use rock_open::{Counted, close_counted};
 use rock_run::read_scripts_may_be_served;
 use script_text::{Script, read_script};
 use std::alloc::Global;
@@ -43,7 +45,7 @@ const ROWS: &str = "\
 1 put u0 #1300:0";
 
 /// The script of one worker. Long words stand there by their names.
-fn script_of(alloc: Global, text: &str, anchors: u32) -> Option<Script>
+pub(crate) fn script_of(alloc: Global, text: &str, anchors: u32) -> Option<Script>
     ensures { IfSome result (λ script. MayBeServed 1 script.lines) }
 {
     read_scripts_may_be_served();
@@ -68,27 +70,41 @@ fn volume_of(alloc: Global, slots: u32) -> Option<MemVolume>
     Some(volume)
 }
 
-/// Whether a row is so.
+/// What was counted in a store of so many anchors, as in a row.
+fn numbers_of<C>(counted: &Counted<C>, anchors: u64) -> [u64; 5] {
+    [
+        counted.cells.len() as u64,
+        anchors,
+        u64::from(counted.kept),
+        u64::from(counted.held),
+        u64::from(counted.free),
+    ]
+}
+
+/// Whether a row is so of a store over a file.
 fn is_so<R: Wait>(rt: &R, alloc: Global, row: &str) -> Option<bool> {
     let (head, text) = row.split_once('\n').unwrap_or((row, ""));
     let wanted = numbers::<5>("", head)?;
     let [slots, anchors, ..] = wanted;
     let script = script_of(alloc, text, short(anchors))?;
     let mut volume = volume_of(alloc, short(slots))?;
-    let Counted {
-        cells,
-        kept,
-        held,
-        free,
-    } = left_by(rt, alloc, &mut volume, short(anchors), &script)?;
-    let counted = [
-        cells.len() as u64,
-        anchors,
-        u64::from(kept),
-        u64::from(held),
-        u64::from(free),
-    ];
-    Some(counted == wanted)
+    let counted = left_by(rt, alloc, &mut volume, short(anchors), &script)?;
+    Some(numbers_of(&counted, anchors) == wanted)
+}
+
+/// Whether a row is so of a store over all pages of a pool.
+fn is_so_in_pages<R: Wait>(rt: &R, alloc: Global, row: &str) -> Option<bool> {
+    let (head, text) = row.split_once('\n').unwrap_or((row, ""));
+    let wanted = numbers::<5>("", head)?;
+    let [slots, anchors, ..] = wanted;
+    let (pages, anchors) = (short(slots), short(anchors));
+    let script = script_of(alloc, text, anchors)?;
+    if pages == 0 || pages > 1048576 || anchors == 0 {
+        return None;
+    }
+    let (pool, mut seat) = Pool::new(alloc, pages, 512).ok()?;
+    let (store, passes) = served_in_pages(rt, alloc, &pool, &mut seat, pages, anchors, &script)?;
+    Some(numbers_of(&close_counted(store, passes), u64::from(anchors)) == wanted)
 }
 
 #[test]
@@ -96,5 +112,6 @@ fn what_is_left_is_counted(rt: HostRuntime) {
     assert_eq!(rt; ROWS.split("\n\n").count(), 4);
     for row in ROWS.split("\n\n") {
         assert!(rt; is_so(&rt, rt.alloc(), row) == Some(true), "{row}");
+        assert!(rt; is_so_in_pages(&rt, rt.alloc(), row) == Some(true), "{row}");
     }
 }

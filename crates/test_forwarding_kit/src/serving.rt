@@ -16,7 +16,7 @@ use std::sync::Wait;
 use store_rule::{Pass, Store};
 use store_serve::{
     ScriptTab, Told, add_to_tab, begin_on_tab, close_tab, drop_tab, end_tab, get_whole, open_tab,
-    purge_url, put_whole, read_more, requests_keep_other_tabs,
+    purge_url, put_whole, read_more, requests_keep_other_tabs, wipe_url,
 };
 
 /// The answer to a line, if there is one, and what is kept of tab 0 behind it.
@@ -64,6 +64,7 @@ fn serve_whole<R: Wait, C: Cell, St: Station<C = C>>(
             &mut piece,
         ).ok(),
         Request::Purge { url } => Some(purge_url(store, pass, url.as_slice())),
+        Request::Wipe { url } => Some(wipe_url(store, pass, station, url.as_slice())),
         _ => None,
     }
 }
@@ -126,7 +127,11 @@ pub(crate) fn serve_line<R: Wait, C: Cell, St: Station<C = C>>(
             tab: kept,
         };
     }
-    if let Request::Put { .. } | Request::Get { .. } | Request::Purge { .. } = line.request {
+    if let Request::Put { .. }
+    | Request::Get { .. }
+    | Request::Purge { .. }
+    | Request::Wipe { .. } = line.request
+    {
         return Served {
             answer: serve_whole(rt, alloc, store, pass, station, offer, line),
             tab: kept,

@@ -10,6 +10,7 @@ pub enum Kind {
     Save,
     Get,
     Purge,
+    Wipe,
     Begin,
     Add,
     Drop,
@@ -75,13 +76,22 @@ fn ask_to_begin(lines: &mut Vec<Asked>) -> Result<(), AllocError> {
     Ok(())
 }
 
+/// In each second round it wipes in place of purging.
+fn in_round(kind: Kind, round: u32) -> Kind {
+    match kind {
+        Kind::Purge if round % 2 == 1 => Kind::Wipe,
+        other => other,
+    }
+}
+
 /// The requests of a worker in a round, about the first `urls` URLs.
 fn ask_a_round(lines: &mut Vec<Asked>, round: u32, worker: u32, urls: u32) -> Result<(), AllocError>
     requires { 0 < urls }
 {
     let first = worker.wrapping_mul(5).wrapping_add(round.wrapping_mul(3));
     for (kind, behind) in ROUND {
-        ask(lines, worker, kind, first.wrapping_add(behind) % urls)?;
+        let about = first.wrapping_add(behind) % urls;
+        ask(lines, worker, in_round(kind, round), about)?;
     }
     Ok(())
 }
@@ -126,6 +136,7 @@ fn text_of(alloc: Global, asked: Asked, number: u32) -> Result<String, AllocErro
         }
         Kind::Get => format!(in alloc; "{worker} get http://a/{about:02}\n"),
         Kind::Purge => format!(in alloc; "{worker} purge http://a/{about:02}\n"),
+        Kind::Wipe => format!(in alloc; "{worker} wipe http://a/{about:02}\n"),
         Kind::Begin => {
             format!(in alloc; "{worker} begin 0 http://a/{about:02} #{length}:{letter}\n")
         }

@@ -131,7 +131,7 @@ fn shown(answer: &str) -> Option<(u64, u64)> {
         "DOOMED" => Some((rank(first, 8, 7)?, rank(first, 8, 3)?)),
         "HIT" | "OPEN" => Some((rank(first, 0, 3)?, rank(first, 0, 2)?)),
         "BEGUN" => Some((rank(first, 0, 1)?, rank(first, 0, 1)?)),
-        "PART" | "PURGED" => Some((rank_of(first)?, rank_of(first)?)),
+        "PART" | "PURGED" | "WIPED" | "LATER" => Some((rank_of(first)?, rank_of(first)?)),
         "MISS" | "NONE" => Some((rank_of(second)?, rank_of(second)?)),
         "BUSY" => Some((
             rank_of(first.split_once('/')?.0)?,
@@ -149,6 +149,7 @@ fn may_answer(kind: Kind, name: &str, fits: bool) -> bool {
         }
         Kind::Get => name == "HIT" || name == "PART" || name == "MISS" || name == "HALTED",
         Kind::Purge => name == "PURGED" || name == "NONE",
+        Kind::Wipe => name == "WIPED" || name == "LATER" || name == "NONE",
         Kind::Begin => name == "BEGUN" || name == "BUSY",
         Kind::Add => name == "ADDED" || name == "TAB" || (name == "FULL" && !fits),
         Kind::Drop => name == "DROPPED" || name == "TAB",
@@ -247,7 +248,7 @@ fn told_of<'a>(
                 }
                 begun.push((version, *number))?;
             }
-            "PURGED" => purged.push(version)?,
+            "PURGED" | "WIPED" | "LATER" => purged.push(version)?,
             "FULL" => full = full.wrapping_add(1),
             _ => {}
         }
@@ -389,7 +390,7 @@ impl Told<'_> {
             "PART" => Ok(stage_of(found) == 2 && self.gives(alloc, one, version_of(found))?),
             "MISS" | "NONE" => self.is_cause(alloc, one, found),
             "BUSY" => Ok(is_busy(one.answer)),
-            "PURGED" | "DOOMED" => Ok(is_doomed(found)),
+            "PURGED" | "WIPED" | "LATER" | "DOOMED" => Ok(is_doomed(found)),
             _ => Ok(true),
         }
     }

@@ -92,6 +92,69 @@ purge http://a/b -> PURGED 1.2d
 end 0 -> DOOMED 1
 get http://a/b -> MISS absent 1.6d
 
+== wiped; 4; 1; new
+save http://a/b =x -> STORED 1
+wipe http://a/b -> WIPED 1.3d
+get http://a/b -> MISS absent 1.6d
+wipe http://a/b -> NONE absent 1.6d
+
+== wiped_later; 4; 1; new
+put http://a/b =x -> STORED 1
+open 0 http://a/b -> OPEN 1
+wipe http://a/b -> LATER 1.3d
+close 0 -> CLOSED
+
+== wiped_and_wiped_later; 4; 1; new
+save http://a/b =x -> STORED 1
+wipe http://a/b -> WIPED 1.3d
+put http://a/b =y -> STORED 2
+open 0 http://a/b -> OPEN 2
+wipe http://a/b -> LATER 2.3d
+close 0 -> CLOSED
+get http://a/b -> MISS absent 2.6d
+
+== wiped_while_it_is_read; 4; 1; new
+put http://a/b =x -> STORED 1
+open 0 http://a/b -> OPEN 1
+wipe http://a/b -> LATER 1.3d
+wipe http://a/b -> NONE leaving 1.3d
+more 0 -> END 1 78
+close 0 -> CLOSED
+get http://a/b -> MISS absent 1.6d
+
+== wiped_while_it_is_written; 4; 1; new
+begin 0 http://a/b #900:0 -> BEGUN 1
+wipe http://a/b -> NONE writing 1.1
+add 0 900 -> ADDED 900
+wipe http://a/b -> LATER 1.2d
+end 0 -> DOOMED 1
+put http://a/b =x -> STORED 2
+wipe http://a/b -> WIPED 2.3d
+get http://a/b -> MISS absent 2.6d
+
+== wiped_once_it_was_halted; 8; 1; new
+begin 0 http://a/b #1300:0 -> BEGUN 1
+add 0 900 -> ADDED 900
+open 1 http://a/b -> OPEN 1
+drop 0 -> DROPPED
+wipe http://a/b -> NONE leaving 1.4
+close 1 -> CLOSED
+wipe http://a/b -> NONE absent 1.6
+
+== wiped_where_another_key_is; 4; 1; new
+put http://a/c =y -> STORED 1
+wipe http://a/b -> NONE other 1.3 4877c9348b6d7299e213896f839c80b8
+get http://a/c -> HIT 1 1 79
+
+== wiped_with_all_slots; 4; 1; new
+put http://a/b #1846:0 -> STORED 1
+wipe http://a/b -> WIPED 1.3d
+put http://a/b #1846:0 -> STORED 2
+
+== wiped_entry_of_the_file; 2; 1; http://a/c y 5
+wipe http://a/c -> WIPED 5.3d
+get http://a/c -> MISS absent 5.6d
+
 == large; 2; 1; new
 put http://a/b #902:0 -> STORED 1
 put http://a/b #903:0 -> LARGE
@@ -160,7 +223,7 @@ get http://a/b -> HIT 5 1 78
 #[test]
 fn scripts_are_answered(rt: HostRuntime) -> Result<(), Fail> {
     let count = plays(&rt, SCRIPTS)?;
-    assert_eq!(rt; count, 94);
+    assert_eq!(rt; count, 139);
     Ok(())
 }
 

@@ -15,3 +15,4 @@ mod refused;
 mod serving;
 mod sharing;
 mod story;
+mod wiping;

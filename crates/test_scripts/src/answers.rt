@@ -91,7 +91,9 @@ const FOUND: &str = "\
 1 3 purged none 4294967295 true Gone 0 0 false Empty 0;1 3 PURGED 4294967295.6d
 1 3 purged none 1 false Appending 0 0 false Empty 0;1 3 PURGED 1.2
 1 3 purged none 7 false Halted 0 0 false Empty 0;1 3 PURGED 7.4
-1 3 purged none 7 true Freeing 0 0 false Empty 0;1 3 PURGED 7.5d";
+1 3 purged none 7 true Freeing 0 0 false Empty 0;1 3 PURGED 7.5d
+1 2 wiped none 1 true Closed 0 0 false Empty 0;1 2 WIPED 1.3d
+1 3 later none 1 true Appending 0 0 false Empty 0;1 3 LATER 1.2d";
 
 /// A word of these numbers: its version, whether it is doomed, its stage and its readers.
 fn word(numbers: [u64; 4]) -> Option<Word> {
@@ -129,6 +131,8 @@ fn found(name: u64, why: Option<Cause>, looked: Word, found: Word) -> Option<Ans
         (1, None) => Some(Answer::Purged { epoch }),
         (2, Some(cause)) => Some(Answer::Miss { cause }),
         (3, Some(cause)) => Some(Answer::NoEntry { cause }),
+        (4, None) => Some(Answer::Wiped { epoch }),
+        (5, None) => Some(Answer::Later { epoch }),
         _ => None,
     }
 }
@@ -144,7 +148,7 @@ fn is_found(alloc: Global, row: &str) -> Option<bool> {
 
 #[test]
 fn answers_with_epochs_have_their_lines(rt: HostRuntime) {
-    assert_eq!(rt; FOUND.lines().count(), 15);
+    assert_eq!(rt; FOUND.lines().count(), 17);
     for row in FOUND.lines() {
         assert!(rt; is_found(rt.alloc(), row) == Some(true), "{row}");
     }

@@ -44,6 +44,7 @@ const SHORT: &str = "\
 2;1 get -;Ok(1)
 2;1 get http://a/b|;Ok(1)
 2;1 get http://a/b|2 get http://a/b;Ok(2)
+2;1 wipe http://a/b;Ok(1)
 2;|;Err(BadLine { line: 1, cause: 3 })
 2;1 get http://a/b||;Err(BadLine { line: 2, cause: 3 })
 2;1 get http://a/b|  |;Err(BadLine { line: 2, cause: 3 })
@@ -64,11 +65,14 @@ const SHORT: &str = "\
 2;1 get http://a/b ;Err(BadLine { line: 1, cause: 5 })
 2;1 get http://a/b c;Err(BadLine { line: 1, cause: 5 })
 2;1 begin 9 ;Err(BadLine { line: 1, cause: 5 })
+2;1 wipe;Err(BadLine { line: 1, cause: 5 })
+2;1 wipe http://a/b c;Err(BadLine { line: 1, cause: 5 })
 2;1 more 7;Err(BadLine { line: 1, cause: 6 })
 2;1 more 00;Err(BadLine { line: 1, cause: 6 })
 2;1 begin 7  x;Err(BadLine { line: 1, cause: 6 })
 2;1 get ;Err(BadLine { line: 1, cause: 7 })
 2;1 put  x;Err(BadLine { line: 1, cause: 7 })
+2;1 wipe ;Err(BadLine { line: 1, cause: 7 })
 2;1 put http://a/b x;Err(BadLine { line: 1, cause: 8 })
 2;1 put http://a/b ;Err(BadLine { line: 1, cause: 8 })
 2;1 put http://a/b =;Err(BadLine { line: 1, cause: 8 })
@@ -101,7 +105,7 @@ fn is_short_told(alloc: Global, row: &str, most: usize) -> Option<bool> {
 
 #[test]
 fn short_scripts_are_good_or_bad_as_tabled(rt: HostRuntime) {
-    assert_eq!(rt; SHORT.lines().count(), 50);
+    assert_eq!(rt; SHORT.lines().count(), 54);
     for row in SHORT.lines() {
         for most in [1, 7, 8192] {
             assert!(rt;
@@ -162,7 +166,9 @@ fn parts(request: &Request) -> (u32, usize, usize) {
         Request::Begin { tab, url, body } => {
             (u32::from(*tab), url.as_slice().len(), length_of(body))
         }
-        Request::Get { url } | Request::Purge { url } => (0, url.as_slice().len(), 0),
+        Request::Get { url } | Request::Purge { url } | Request::Wipe { url } => {
+            (0, url.as_slice().len(), 0)
+        }
         Request::OpenTab { tab, url } => (u32::from(*tab), url.as_slice().len(), 0),
         Request::Add { tab, count } => (u32::from(*tab) + 10 * (*count % 1000), 0, 0),
         Request::End { tab }
@@ -194,7 +200,8 @@ const REQUESTS: &str = "\
 1 more 5;1 10 (5, 0, 0)
 1 close 6;1 11 (6, 0, 0)
 2 mark 0;2 12 (0, 0, 0)
-1 await 63;1 13 (63, 0, 0)";
+1 await 63;1 13 (63, 0, 0)
+1 wipe http://a/b;1 14 (0, 10, 0)";
 
 /// The lines of the rows, as they are read.
 fn read_requests(alloc: Global) -> Option<Script> {
@@ -222,7 +229,7 @@ fn each_request_is_read(rt: HostRuntime) {
         return;
     };
     let lines = script.lines.as_slice();
-    assert_eq!(rt; (lines.len(), REQUESTS.lines().count()), (13, 13));
+    assert_eq!(rt; (lines.len(), REQUESTS.lines().count()), (14, 14));
     for (line, row) in lines.iter().zip(REQUESTS.lines()) {
         assert!(rt; has_parts(rt.alloc(), line, row) == Some(true), "{row}");
     }

@@ -20,7 +20,7 @@ use std::sync::Wait;
 use store_rule::{Origin, Pass, Store};
 use store_serve::{
     ScriptTab, Told, add_to_tab, begin_on_tab, close_tab, drop_tab, end_tab, get_whole, open_tab,
-    purge_url, put_whole, read_more, requests_keep_other_tabs,
+    purge_url, put_whole, read_more, requests_keep_other_tabs, wipe_url,
 };
 
 /// Serves a line. `piece` has room for what a slot may add to a body.
@@ -72,6 +72,7 @@ pub(crate) fn serve_line<R: Wait, C: Cell, O: Origin, St: Station<C = C>>(
         )),
         Request::Get { url } => get_whole(rt, alloc, store, pass, station, url.as_slice(), piece),
         Request::Purge { url } => Ok(purge_url(store, pass, url.as_slice())),
+        Request::Wipe { url } => Ok(wipe_url(store, pass, station, url.as_slice())),
         Request::Mark { .. } | Request::Await { .. } => unreachable!(),
         Request::Begin { tab, .. }
         | Request::Add { tab, .. }

@@ -15,12 +15,13 @@ const REST: Part = Part {
     signs: 0,
 };
 
-/// Runs lines of two workers over a new file of four slots. The stations of the workers have these parts. What is printed
+/// Runs lines of two workers over a new file of so many slots. The stations of the workers have these parts. What is printed
 /// is one of these lists of answers, which are written as in a story, with an empty line between each two. All have the same
 /// requests.
 fn meet<R: Abort + Threads + Wait + Sync>(
     rt: &R,
     alloc: Global,
+    slots: u32,
     anchors: u32,
     parts: [Part; 2],
     lists: &str,
@@ -29,7 +30,8 @@ fn meet<R: Abort + Threads + Wait + Sync>(
     let pipes = Pipes::new(alloc);
     // The stations of `create` and of the rebuild come first.
     let mut volume = Meeting::new(alloc, [REST, REST, first, second])?;
-    let made = call(rt, alloc, &mut volume, &pipes, "create db 512 4", b"")?;
+    let create = format!(in alloc; "create db 512 {slots}")?;
+    let made = call(rt, alloc, &mut volume, &pipes, create.as_str(), b"")?;
     assert_eq!(rt; made.status, Status::Done);
     let command = format!(in alloc; "run db 512 {anchors} 2")?;
     let one = lists.split("\n\n").next().unwrap_or("");
@@ -65,6 +67,7 @@ fn two_stations_meet(rt: HostRuntime) -> Result<(), Fail> {
     meet(
         &rt,
         rt.alloc(),
+        4,
         2,
         [both, both],
         "\
@@ -93,6 +96,7 @@ fn later_get_hits(rt: HostRuntime) -> Result<(), Fail> {
     meet(
         &rt,
         rt.alloc(),
+        4,
         3,
         [first, second],
         "\
@@ -125,6 +129,7 @@ fn workers_with_anchors_of_their_own_lose_nothing(rt: HostRuntime) -> Result<(),
     meet(
         &rt,
         rt.alloc(),
+        4,
         2,
         [both, both],
         "\
@@ -148,6 +153,7 @@ fn workers_with_anchors_of_their_own_replace_what_they_stored(rt: HostRuntime) -
     meet(
         &rt,
         rt.alloc(),
+        4,
         2,
         [REST, REST],
         "\
@@ -192,6 +198,73 @@ fn workers_with_anchors_of_their_own_replace_what_they_stored(rt: HostRuntime) -
 2 put u1 #901:0 -> STORED 2
 1 get u0 -> HIT 4 901 MADE(0,901)
 2 get u1 -> HIT 2 901 MADE(0,901)
+",
+    )
+}
+
+/// Worker 1 is alone at the anchors of u0 and u1, and worker 2 at that of u2. Each is answered as by a store of its own, but for
+/// versions, of which those of worker 1 rise. Nobody waits.
+#[test]
+fn workers_alone_at_their_anchors_are_answered_as_by_stores_of_their_own(
+    rt: HostRuntime,
+) -> Result<(), Fail> {
+    meet(
+        &rt,
+        rt.alloc(),
+        8,
+        3,
+        [REST, REST],
+        "\
+1 put u0 =x -> STORED 1
+1 open 0 u0 -> OPEN 1
+1 purge u0 -> PURGED 1.3d
+1 put u1 =y -> STORED 2
+1 more 0 -> END 1 78
+1 close 0 -> CLOSED
+1 get u0 -> MISS absent 1.6d
+1 get u1 -> HIT 2 1 79
+2 begin 0 u2 #1300:0 -> BEGUN 3
+2 add 0 900 -> ADDED 900
+2 open 1 u2 -> OPEN 3
+2 drop 0 -> DROPPED
+2 more 1 -> HALTED 429 MADE(0,429)
+2 get u2 -> MISS leaving 3.4
+2 close 1 -> CLOSED
+2 get u2 -> MISS absent 3.6
+
+1 put u0 =x -> STORED 1
+1 open 0 u0 -> OPEN 1
+1 purge u0 -> PURGED 1.3d
+1 put u1 =y -> STORED 3
+1 more 0 -> END 1 78
+1 close 0 -> CLOSED
+1 get u0 -> MISS absent 1.6d
+1 get u1 -> HIT 3 1 79
+2 begin 0 u2 #1300:0 -> BEGUN 2
+2 add 0 900 -> ADDED 900
+2 open 1 u2 -> OPEN 2
+2 drop 0 -> DROPPED
+2 more 1 -> HALTED 429 MADE(0,429)
+2 get u2 -> MISS leaving 2.4
+2 close 1 -> CLOSED
+2 get u2 -> MISS absent 2.6
+
+1 put u0 =x -> STORED 2
+1 open 0 u0 -> OPEN 2
+1 purge u0 -> PURGED 2.3d
+1 put u1 =y -> STORED 3
+1 more 0 -> END 1 78
+1 close 0 -> CLOSED
+1 get u0 -> MISS absent 2.6d
+1 get u1 -> HIT 3 1 79
+2 begin 0 u2 #1300:0 -> BEGUN 1
+2 add 0 900 -> ADDED 900
+2 open 1 u2 -> OPEN 1
+2 drop 0 -> DROPPED
+2 more 1 -> HALTED 429 MADE(0,429)
+2 get u2 -> MISS leaving 1.4
+2 close 1 -> CLOSED
+2 get u2 -> MISS absent 1.6
 ",
     )
 }

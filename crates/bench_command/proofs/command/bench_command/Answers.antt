@@ -8,7 +8,8 @@ use Rattle.bench_command.specs.Ends.{RunEnds}
 use Rattle.bench_command.specs.Leaves.{RunLeaves}
 use Rattle.bench_command.specs.Prints.{IsLineOfRun}
 use Rattle.bench_command.proofs.Made.{done_or_memory, leaves_of_run, made_home, made_slots, run_made_ends, same_counts, says_of_run}
-use Rattle.bench_command.proofs.Plain.{line_of_one, sized}
+use Rattle.bench_command.proofs.Alone.{BenchLaws, all_renamed}
+use Rattle.bench_command.proofs.Plain.{images_zeros, line_of_all, many, sized}
 use Rattle.bench_command.proofs.Printed.{told_so}
 use Rattle.bench_command.proofs.Refused.{few, unmade_complete, unmade_ends, unmade_leaves, unmade_prints, unmade_says}
 use Rattle.bench_command.proofs.Stations.{header_kept, run_kept}
@@ -55,7 +56,23 @@ returns-in-Done-clause-prints g c told =
       middle = g.V.Volume.files c.create_file.new.volume;
       made = c.in-Done.ensures.leaves;
       line = line;
-      plain = λ alone tells none. line.is ∙ line_of_one c.cutting_keeps_the_bytes.ensures c.geometries_are_read_as_written.ensures.whole _ _ _ _ _ _ _ line.run.answers alone (λ images p zeros opened. c.unwritten_slots_open_fresh_stores.ensures _ images _ p zeros opened) (c.in-Done.ensures.leaves tells) (line.run.served.plain alone tells none).0;
+      plain = λ tells none.
+          let made = c.in-Done.ensures.leaves tells in
+          let passes = c.is_workers.ensures.0 c.if-not-is_workers.false in
+          let few = passes.to in
+          let rounds = c.is_rounds.ensures.0 c.if-not-is_rounds.false in
+          let private = line.run.served.private tells in
+          let zeros = images_zeros c.cutting_keeps_the_bytes.ensures c.geometries_are_read_as_written.ensures.whole _ _ t.name.now t.workers made private.images private.file in
+          let slots = many c.cutting_keeps_the_bytes.ensures c.geometries_are_read_as_written.ensures.whole _ _ t.name.now t.workers made few private.images private.file in
+          let laws : BenchLaws t.seed t.workers t.count = record {
+            private = λ l among. c.bench_lines_are_private.ensures.each t.seed t.workers t.count l few among;
+            renamed = λ worker rename given same answered. c.bench_lines_are_private.ensures.alone t.seed t.workers t.count worker rename given few same answered;
+            fit = c.bench_lines_fit.ensures.fit t.seed t.workers t.count few rounds;
+            new = λ images p zeros opened. c.unwritten_slots_open_fresh_stores.ensures _ images _ p zeros opened;
+            unwritten = λ images zeros fits. c.scripts_fit_into_unwritten_files.ensures _ _ images _ sized zeros fits;
+          } in
+          line.is ∙ line_of_all t.seed t.workers t.count line.run.answers (λ answered alike. c.summaries_tell_no_versions.ensures.plain t.seed t.workers t.count answered alike)
+          (all_renamed t.seed t.workers t.count laws g.V.Volume.tells (g.V.Volume.files c.create_file.new.volume) t.name.now line.run.answers _ _ line.run.served.explained private zeros slots none);
     }) (c.run_bench.ensures.prints told)
 
 pub returns-in-Done-clause-leaves : goal.returns-in-Done-clause-leaves

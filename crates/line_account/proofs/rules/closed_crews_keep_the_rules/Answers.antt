@@ -13,6 +13,7 @@ returns g c r script crew closed serves have = record {
     part = λ epoch bytes p. c.refusals_have_causes.ensures.part r crew epoch bytes closed p;
     busy = λ looked other p. c.refusals_have_causes.ensures.busy r crew looked other closed p;
     readers = λ a p. c.more_readers_come_from_others.ensures r crew a closed p;
+    counted = λ a looked other p. c.busy_words_count_readers.ensures r crew a looked other closed p;
     spent = λ n p. ((c.spent_numbers_have_bounds.ensures r crew n closed p).0, c.scripts_bound_what_is_offered.ensures.spent r script crew n closed serves p);
     large = λ first url body p o. c.refusals_have_causes.ensures.large r crew first url body closed p o;
     small = λ first url body p o. c.refusals_have_causes.ensures.small r crew first url body closed p o;

@@ -86,11 +86,11 @@ returns-in-Bench-clause-carried g c =
         complete = said.complete;
         prints = said.prints;
         leaves = said.leaves;
-        plain = λ one t k. plain_bench g.V.Volume.tells (g.V.Volume.files c.args.volume.now) (g.V.Volume.files c.bench_command.new.volume)
+        plain = λ t k. plain_bench g.V.Volume.tells (g.V.Volume.files c.args.volume.now) (g.V.Volume.files c.bench_command.new.volume)
             c.in-Bench.target.name.now c.in-Bench.target.seed c.in-Bench.target.workers c.in-Bench.target.count
             (counts g.V.Volume.faults g.V.Volume.made g.V.Volume.ended c.args.volume.now)
             (counts g.V.Volume.faults g.V.Volume.made g.V.Volume.ended c.bench_command.new.volume)
-            (g.K.Sink.taken c.args.out.now) (g.K.Sink.taken c.bench_command.new.out) c.bench_command.result (said.prints k) one t;
+            (g.K.Sink.taken c.args.out.now) (g.K.Sink.taken c.bench_command.new.out) c.bench_command.result (said.prints k) t;
         stations = said.ended;
         unfailed = said.device_unfailed;
       };

@@ -22,4 +22,6 @@ returns g c tells files left name slot anchors workers script answers before aft
           told;
       plain = λ alone told none. c.lone_runs_are_answered_plainly.ensures tells files left name slot anchors workers script answers before
           after sized order ran alone told none;
+      private = λ told. c.private_lines_are_answered_plainly.ensures tells files left name slot anchors workers script answers before after
+          sized order ran told;
     }

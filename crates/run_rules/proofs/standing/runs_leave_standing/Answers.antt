@@ -35,6 +35,13 @@ returns g c tells files left name slot anchors workers script answers before aft
       offers = λ w account at x among url body is. c.saved_entries_stay_known.ensures.offered h.closed.store script w account x url body
           (h.served.played.each w account (at_place h.served.played.accounts w account at)) among is;
     }
+    (λ w account at x among url epoch is answered high crashed crash e complete.
+    let seen = c.wiped_slots_stay_seen.ensures h.closed.store script w account x url epoch (h.served.played.each w account (at_place h.served.played.accounts w account at)) among is answered in
+    let there = view_there tells g.C.Cell.tells g.C.Cell.state g.St.Station.faults files left name slot anchors workers script answers before after h w account at in
+    (c.wiped_entries_do_not_come_back.ensures.closed slot anchors workers script h.closed.opened.cells h.closed.store h.closed.passes (views_of h.closed.left) h.closed.cells crashed (view account.end.pass) w _ epoch.version seen.slot
+    (h.closed.opened.told told) (let most = sized.to in omega arith)
+    (let few = c.opened_slots_are_wide_and_few.ensures.few slot h.closed.opened.bytes _ _ h.closed.opened.shape in let same = length-map h.closed.opened.cells g.C.Cell.state in omega arith)
+    h.closed.opened.store h.closed.closed crash there seen.seen).new high e complete)
     order
     (λ images e is complete. c.closed_cells_leave_responses.ensures slot anchors workers script h.closed.opened.cells h.closed.store
     h.closed.passes _ h.closed.cells images e (h.closed.opened.told told) (let most = sized.to in omega arith)

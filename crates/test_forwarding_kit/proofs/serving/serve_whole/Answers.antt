@@ -21,3 +21,9 @@ returns-in-Purge-clause-ready g c = ready_again g.C.Cell.tells g.C.Cell.state sh
 
 pub returns-in-Purge-clause-holds : goal.returns-in-Purge-clause-holds
 returns-in-Purge-clause-holds g c kept h = holds_still g.C.Cell.tells g.C.Cell.state shared_of c.args.store.now record { writes = c.requests_keep_other_tabs.ensures.writes c.args.store.now; reads = c.requests_keep_other_tabs.ensures.reads c.args.store.now } c.args.pass.now c.purge_url.new.pass (c.purge_url.ensures.leaves 7) kept h
+
+pub returns-in-Wipe-clause-ready : goal.returns-in-Wipe-clause-ready
+returns-in-Wipe-clause-ready g c = ready_again g.C.Cell.tells g.C.Cell.state shared_of c.args.store.now c.args.pass.now c.wipe_url.new.pass (ap (λ xs. get_or xs 7 Free) c.wipe_url.ensures.served.same ∙ c.requires.ready.free) (c.wipe_url.ensures.leaves 7)
+
+pub returns-in-Wipe-clause-holds : goal.returns-in-Wipe-clause-holds
+returns-in-Wipe-clause-holds g c kept h = holds_still g.C.Cell.tells g.C.Cell.state shared_of c.args.store.now record { writes = c.requests_keep_other_tabs.ensures.writes c.args.store.now; reads = c.requests_keep_other_tabs.ensures.reads c.args.store.now } c.args.pass.now c.wipe_url.new.pass (c.wipe_url.ensures.leaves 7) kept h

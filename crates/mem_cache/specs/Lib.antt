@@ -1,0 +1,4 @@
+pub mod Cell
+pub mod Closing
+pub mod Opening
+pub mod Pages

@@ -1,0 +1,3 @@
+mod Both
+mod Passes
+mod Resting
