@@ -64,3 +64,4 @@ pub mod GetLines
 pub mod PurgeLines
 pub mod LeavingLots
 pub mod Served
+pub mod LotEnds

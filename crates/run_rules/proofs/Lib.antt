@@ -19,3 +19,6 @@ mod Suiting
 mod LeftAlone
 mod Unspent
 mod Private
+mod Unnamed
+mod UnnamedLast
+mod PrivateAnchors
