@@ -3,3 +3,4 @@ pub mod Runs
 pub mod Words
 pub mod Shows
 pub mod Alone
+pub mod Elsewhere

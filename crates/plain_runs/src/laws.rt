@@ -111,10 +111,10 @@ pub fn lone_runs_are_plain<C: Cell, O: Origin, St: Station<C = C>>()
     faults_are_counted::<C, O, St>();
 }
 
-/// In a store that fits, a worker that is alone at the anchors that its lines name, and whose station met no fault, is
-/// answered as by each plain store that is opened on the images of the cells, but for versions, however many passes the
-/// store has. Each of its lines is private to it and names no anchor but those that are left to its pass, or is at a mark,
-/// and none was answered that no version is left.
+/// In a store that fits, the private lines of a worker whose station met no fault are answered as by each plain store that
+/// is opened on the images of the cells, but for versions, however many passes the store has. Each names no anchor but those
+/// that are left to its pass, each of its tabs is opened at private anchors alone or at others alone, and none of its lines
+/// was answered that no version is left.
 pub fn private_runs_are_plain<C: Cell, O: Origin, St: Station<C = C>>()
     ensures { (slot anchors passes : ℕ) (origin : O) (cells left : List C) (s : Store C O) (ps : Vec (Pass C)) (script : List Line)
         (accounts : List (Account (OnShelf C O St))) (w : ℕ) (a : Account (OnShelf C O St)) (plain : Plain) → IsTrue C.tells

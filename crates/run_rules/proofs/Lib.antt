@@ -19,3 +19,4 @@ mod Suiting
 mod LeftAlone
 mod Unspent
 mod Private
+pub mod TabsApart

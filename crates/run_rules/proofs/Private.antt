@@ -18,11 +18,10 @@ use Rattle.script_text.specs.declared.line.Line.{Line}
 use Rattle.plain_model.specs.declared.store.Plain.{Plain}
 use Rattle.plain_model.specs.declared.store.Setting.{Setting}
 use Rattle.plain_model.specs.Serving.{lines_for}
-use Rattle.plain_laws.specs.Private.{IsServedAlone, is_private, names_only}
-use Rattle.plain_runs.specs.Alone.{IsAloneAtItsAnchors, IsAtMark}
+use Rattle.plain_runs.specs.Alone.{AreTabsApart, IsAloneAtItsAnchors}
 use Rattle.plain_runs.specs.Runs.{setting_over}
 use Rattle.plain_runs.specs.Words.{setting_of}
-use Rattle.store_rule.specs.Ground.{Ground, fits, left_to}
+use Rattle.store_rule.specs.Ground.{Ground, fits}
 use Rattle.store_rule.specs.Passes.{basis}
 use Rattle.worker_pool.specs.Courses.{At, Stage, lines_from}
 use Rattle.worker_pool.specs.Running.{Account, answers_of}
@@ -30,7 +29,7 @@ use Rattle.worker_shelf.specs.Shelves.{OnShelf}
 use Rattle.rock_run.specs.Device.{HasEnded}
 use Rattle.rock_run.specs.Offered.{offers_of}
 use Rattle.rock_run.specs.Runs.{HasRun}
-use Rattle.run_rules.specs.Private.{IsAlone, OpensWithRoom}
+use Rattle.run_rules.specs.Private.{OpensWithRoom}
 use Rattle.run_rules.specs.Runs.{HasImages}
 use Rattle.run_rules.proofs.LeftAlone.{names_left}
 use Rattle.run_rules.proofs.Lists.{IsImage, at_place, both, image}
@@ -110,20 +109,12 @@ module _ {C St : Type 0} (volume_tells told : Bool) (state : C → CellState) (f
   setting_is = let over = h.closed.opened.store in
       λ i. record { slots = over.slots_are i; room = room_of (over.slot_is i); anchors = over.anchors_are i }
 
-  -- a worker that is alone at its anchors is so in the store
-  pub alone_there : (w : ℕ) → fits g ≡ true → IsAlone (setting_over slot anchors (length h.closed.opened.cells)) script (w + 1)
+  -- a worker whose tabs are apart is alone in the store at the anchors that its private lines name
+  pub alone_there : (w : ℕ) → fits g ≡ true → AreTabsApart (setting_over slot anchors (length h.closed.opened.cells)) script (w + 1)
       → IsAloneAtItsAnchors g script (w + 1) w
-  alone_there w fit alone = record {
+  alone_there w fit apart = record {
     fits_is = fit;
-    lines = λ line mine. ⊎_elim
-        (λ (mark : IsAtMark line.request). inl mark)
-        (λ (own : is_private (setting_over slot anchors (length h.closed.opened.cells)) script (w + 1) line ≡ true).
-        let own_there : is_private (setting_of g) script (w + 1) line ≡ true =
-        subst (λ (s : Setting). is_private s script (w + 1) line ≡ true) (sym setting_is) own in
-        inr (
-          own_there,
-          names_left (setting_of g) script w g fit refl h.closed.opened.store.offers_are line
-              (of_filter (λ l. l.worker == w + 1) script line mine) mine own_there,
-        ))
-        (alone line mine);
+    lines = λ line mine own. names_left (setting_of g) script w g fit refl h.closed.opened.store.offers_are line
+        (of_filter (λ l. l.worker == w + 1) script line mine) mine own;
+    tabs = subst (λ (s : Setting). AreTabsApart s script (w + 1)) (sym setting_is) apart;
   }

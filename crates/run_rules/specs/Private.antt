@@ -1,5 +1,5 @@
--- What a worker is answered that is alone at its anchors, by a plain store that is opened on the file.
-use Rattle.std.specs.Prelude.{Contains, List, count_by, length, map, true, ◌+◌, ◌≡◌, ◌≤◌, ◌⊎◌, ℕ}
+-- What a worker is answered to its private lines, by a plain store that is opened on the file.
+use Rattle.std.specs.Prelude.{List, count_by, length, map, ◌+◌, ◌≡◌, ◌≤◌, ℕ}
 use mathlib.Core.Option.{some}
 use lib.ListN.{get_elem?}
 use Rattle.rock_disk.specs.Counts.{Counts}
@@ -8,20 +8,14 @@ use Rattle.script_text.specs.Requests.{offers_body}
 use Rattle.script_text.specs.declared.answer.Answer.{Answer}
 use Rattle.script_text.specs.declared.line.Line.{Line}
 use Rattle.plain_model.specs.declared.store.Plain.{Plain}
-use Rattle.plain_model.specs.declared.store.Setting.{Setting}
 use Rattle.plain_model.specs.Opening.{IsOpened}
 use Rattle.plain_model.specs.Serving.{lines_for}
-use Rattle.plain_laws.specs.Private.{IsServedAlone, is_private}
-use Rattle.plain_runs.specs.Alone.{IsAtMark}
+use Rattle.plain_laws.specs.Private.{IsServedAlone}
+use Rattle.plain_runs.specs.Alone.{AreTabsApart}
 use Rattle.plain_runs.specs.Runs.{setting_over}
 use Rattle.rock_run.specs.Device.{HasEnded}
 use Rattle.run_rules.specs.Fitting.{FitsInto}
 use Rattle.run_rules.specs.Runs.{HasImages}
-
--- each line of the worker is private to it, or is at a mark
-abbrev pub IsAlone : Setting → List Line → ℕ → Type 0
-IsAlone s script worker = (line : Line) → Contains (lines_for worker script) line
-    → IsAtMark line.request ⊎ (is_private s script worker line ≡ true)
 
 -- A plain store that is opened on the file, with these images of its slots, into which the script fits.
 pub record OpensWithRoom (files : Files) (name : List ℕ) (slot anchors : ℕ) (script : List Line) (images : List (List ℕ)) (plain : Plain)
@@ -35,12 +29,13 @@ pub record OpensWithRoom (files : Files) (name : List ℕ) (slot anchors : ℕ) 
   -- and so do the versions: each line that offers a body may begin one
   pub versions : plain.counter + count_by (λ line. offers_body line.request) script ≤ 4294901760
 
--- The worker with this number was given these answers, with the numbers of its lines. Where it is alone at its anchors and the script fits,
--- they are those of the plain store to its lines by themselves, but for the numbers of versions.
+-- The worker with this number was given these answers, with the numbers of its lines. Where the script fits, and each of its tabs is opened
+-- at private anchors alone or at others alone, those to its private lines are those of the plain store to these lines by themselves, but for
+-- the numbers of versions.
 abbrev pub IsAnsweredAlone : Files → (name : List ℕ) → (slot anchors : ℕ) → List Line → (worker : ℕ) → List (ℕ × Answer) → Type 0
 IsAnsweredAlone files name slot anchors script worker mine = (images : List (List ℕ)) (plain : Plain)
     → OpensWithRoom files name slot anchors script images plain
-    → IsAlone (setting_over slot anchors (length images)) script worker
+    → AreTabsApart (setting_over slot anchors (length images)) script worker
     → IsServedAlone (setting_over slot anchors (length images)) script worker plain (map (λ x. x.1) mine)
 
 -- There is a plain store that is opened on the file, and each worker whose station was ended with no fault is answered so.

@@ -13,7 +13,7 @@ use Rattle.plain_model.specs.Store.{place_at}
 use Rattle.plain_laws.specs.Fitting.{Fits}
 use Rattle.worker_pool.specs.Running.{answers_of}
 use Rattle.run_rules.specs.Fitting.{FitsInto}
-use Rattle.run_rules.specs.Private.{IsAlone}
+use Rattle.plain_runs.specs.Alone.{AreTabsApart}
 use Rattle.store_key.specs.Key.{key_of}
 use Rattle.script_text.specs.declared.answer.Answer.{Answer}
 use Rattle.script_text.specs.declared.line.Line.{Line}
@@ -100,7 +100,7 @@ returns g c tells files left name slot anchors workers script answers before aft
           (λ x among versions is. never_spent explained.run script explained.crew explained.rules suffice answers explained.printed j
           x.line.number versions mine at (subst (λ z. Contains z (x.line.number, answer.Spent versions)) account.is
           (subst (λ (z : Answer). Contains (answers_of account.item) (x.line.number, z)) is (told_of tells g.C.Cell.tells g.C.Cell.state g.St.Station.faults files left name slot anchors workers script answers before after h told account.item x among))))
-          (alone_there tells g.C.Cell.tells g.C.Cell.state g.St.Station.faults files left name slot anchors workers script answers before after h told j fit (subst (λ n. IsAlone (setting_over slot anchors n) script (j + 1)) many alone))
+          (alone_there tells g.C.Cell.tells g.C.Cell.state g.St.Station.faults files left name slot anchors workers script answers before after h told j fit (subst (λ n. AreTabsApart (setting_over slot anchors n) script (j + 1)) many alone))
           (subst (λ n. Fits (setting_over slot anchors n) (lines_for (j + 1) script) plain) many fits_own) in
           let given : map (λ x. x.answer) account.item.stages ≡ map (λ (x : ℕ × Answer). x.1) mine =
           sym (both (λ (x : Stage _). (x.line.number, x.answer)) (λ (x : ℕ × Answer). x.1) account.item.stages)
