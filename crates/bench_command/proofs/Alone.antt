@@ -20,6 +20,7 @@ use Rattle.entry_cut.specs.Content.{room_of}
 use Rattle.plain_laws.specs.Fitting.{Fits}
 use Rattle.plain_laws.specs.Private.{IsServedAlone, answers_to, is_private, private_lines}
 use Rattle.plain_laws.specs.Renaming.{renamed}
+use Rattle.run_rules.proofs.TabsApart.{alone_apart}
 use Rattle.run_rules.specs.Fitting.{FitsInto}
 use Rattle.run_rules.specs.Private.{AreAnsweredAlone, OpensWithRoom}
 use Rattle.run_rules.specs.Runs.{IsExplained}
@@ -133,9 +134,10 @@ module _ (seed workers count : ℕ) (laws : BenchLaws seed workers count) (volum
 
     served : IsServedAlone (setting_of workers (length private.images)) script (j + 1) private.plain (answers_alone row.item)
     served = (private.each explained.stations explained.ended j row.item row.at station private.images private.plain with_room
+        (λ tab. alone_apart (setting_of workers (length private.images)) script (j + 1) tab
         (λ line mine. let own = of_worker (j + 1) script line mine in
         inr (subst (λ (w : ℕ). is_private (setting_of workers (length private.images)) script w line ≡ true) own.is
-        (subst (λ (s : Setting). is_private s script line.worker line ≡ true) (sym setting_is) (laws.private line own.among))))).served
+        (subst (λ (s : Setting). is_private s script line.worker line ≡ true) (sym setting_is) (laws.private line own.among)))))).served
 
     renamed_row : IsRenamed (answers_alone row.item) (answers_to_one seed workers count (j + 1))
     renamed_row = laws.renamed (j + 1) served.rename (answers_alone row.item) each_answered

@@ -1,5 +1,5 @@
 -- How a pass ends that shows a lot: its tabs are left as by the plain store, and what that has then stands in the store that was closed.
-use Rattle.std.proofs.Common.{Bool, IsTrue, List, [], ap, arith, false, length, map, refl, subst, suc, sym, true, zero, ◌<◌, ◌∙◌, ◌∷◌, ◌≡◌, ◌≤◌, ℕ}
+use Rattle.std.proofs.Common.{Bool, IsTrue, List, [], ap, arith, false, inl, inr, length, map, refl, subst, suc, sym, true, zero, ◌<◌, ◌∙◌, ◌∷◌, ◌≡◌, ◌≤◌, ◌⊎◌, ℕ}
 use Rattle.std.specs.Global.{Vec}
 use Rattle.std.specs.List.{range_with_len}
 use Rattle.std.proofs.lemmas.List.{length-map}
@@ -8,6 +8,7 @@ use lib.ListN.{get_elem?}
 use Rattle.rock_disk.specs.Cell.{CellState}
 use Rattle.rock_disk.specs.Opened.{AreSlots}
 use Rattle.core_model.specs.State.{word}
+use Rattle.script_text.specs.declared.answer.Answer.TheVariants as answer
 use Rattle.core_model.specs.declared.view.View.{View}
 use Rattle.plain_model.specs.declared.store.Plain.{Plain}
 use Rattle.plain_model.specs.declared.store.Tab.{Tab}
@@ -17,7 +18,7 @@ use Rattle.plain_model.specs.Store.{tab_at}
 use Rattle.store_rule.specs.declared.store.Pass.{Pass}
 use Rattle.store_rule.specs.declared.store.Store.{Store}
 use Rattle.store_rule.specs.Closing.{Closed}
-use Rattle.store_rule.specs.Ground.{Ground, Offers}
+use Rattle.store_rule.specs.Ground.{Ground, Offers, fits}
 use Rattle.store_rule.specs.Passes.{basis, view}
 use Rattle.store_rule.proofs.Passing.{pass_of}
 use Rattle.rock_open.specs.Opening.{IsStoreOver}
@@ -25,7 +26,7 @@ use Rattle.store_serve.specs.Tabs.{IsFree}
 use Rattle.store_serve.specs.Whole.{whole_tab}
 use Rattle.worker_pool.specs.Courses.{At}
 use Rattle.worker_shelf.proofs.Holding.{Stays}
-use Rattle.worker_shelf.specs.Shelves.{LeftBelow, LeftTab}
+use Rattle.worker_shelf.specs.Shelves.{LeavesFree, LeavesReader, LeavesWriter, LeftBelow, LeftTab}
 use Rattle.plain_runs.specs.Ends.{HoldsWholeAt}
 use Rattle.plain_runs.specs.PrivateRuns.{EndedAs}
 use Rattle.plain_runs.specs.Shows.{ShowsLot, ShowsTab}
@@ -35,6 +36,7 @@ use Rattle.plain_runs.proofs.Ends.{PlacedPieces, holds_lot, home_as, lot_word}
 use Rattle.plain_runs.proofs.Leaving.{all_left, leave_free, left_below}
 use Rattle.plain_runs.proofs.LeavingLots.{leaves_lot}
 use Rattle.plain_runs.proofs.Opened.{as_many, has_versions, tells_pieces}
+use Rattle.plain_runs.proofs.OtherLines.{close_left, drop_left}
 use Rattle.plain_runs.proofs.OwnAnchors.{OwnsLot, lot_stays}
 use Rattle.plain_runs.proofs.ShowingOthers.{OneBegins}
 use Rattle.plain_runs.proofs.ShownTabs.{reads_not_free, writes_not_free}
@@ -44,6 +46,19 @@ pub image_at : {X Y : Type 0} (f : X → Y) (xs : List X) (k : ℕ) (x : X) → 
 image_at f [] k x h = absurd (let z = h.0 in omega arith)
 image_at f (y ∷ xs) zero x h = ap (λ z. some (f z)) h.1
 image_at f (y ∷ xs) (suc k) x h = image_at f xs k x ((let z = h.0 in omega arith), h.1)
+
+-- A tab of a store that fits that is none of the lot leaves the lot as it is.
+pub other_left : {C O : Type 0} (tells : Bool) (state : C → CellState) (offers : O → Offers) (s : Store C O) (begins : OneBegins) (stays : Stays tells state offers s) (rename : ℕ → ℕ) (lot : Lot)
+    (t : ℕ) (p q : Pass C) (plain : Plain) → t < whole_tab → lot.tabs t ≡ false → LeftTab tells state offers s t p q → OwnsLot (basis tells state offers s) lot (view p).pass
+    → ShowsLot tells state offers s rename p plain lot → lot.counter ≡ false → fits (basis tells state offers s) ≡ true → ShowsLot tells state offers s rename q plain lot
+other_left {C} tells state offers s begins stays rename lot t p q plain below away left owns shows apart fits_is = by_how left.how
+  where
+    by_how : LeavesFree tells state offers s t p q ⊎ LeavesReader tells state offers s t p q ⊎ LeavesWriter tells state offers s t p q → ShowsLot tells state offers s rename q plain lot
+    by_how (inl free) = subst (λ (x : Pass C). ShowsLot tells state offers s rename x plain lot) (sym free.1) shows
+    by_how (inr (inl reads)) = close_left tells state offers s begins stays rename lot p q plain owns shows apart fits_is t below away left.leaves answer.Closed
+        record { answer_is = refl; parted = reads.1; free = left.free; stays = left.stays }
+    by_how (inr (inr writes)) = drop_left tells state offers s begins stays rename lot p q plain owns shows apart fits_is t below away left.leaves answer.Dropped
+        record { answer_is = refl; halts = writes.1; stays = left.stays }
 
 -- A tab that is none of the lot is to leave the lot as it is (`elsewhere`).
 module _ {C O : Type 0} (tells : Bool) (state : C → CellState) (offers : O → Offers) (s : Store C O) (begins : OneBegins) (stays : Stays tells state offers s) (rename : ℕ → ℕ) (lot : Lot)

@@ -4,3 +4,4 @@ pub mod Words
 pub mod Shows
 pub mod Alone
 pub mod PrivateRuns
+pub mod Elsewhere

@@ -1,5 +1,5 @@
 -- What a worker comes to that is alone at its anchors: its answers, and what stands there when the store was closed.
-use Rattle.std.specs.Prelude.{Bool, List, true, ◌<◌, ◌≡◌, ℕ}
+use Rattle.std.specs.Prelude.{Bool, List, true, ◌&&◌, ◌<◌, ◌≡◌, ℕ}
 use Rattle.std.specs.List.{range_with_len}
 use Rattle.lock_word.specs.Words.{word_number}
 use Rattle.script_text.specs.declared.answer.Answer.{Answer}
@@ -8,13 +8,19 @@ use Rattle.plain_model.specs.declared.store.Plain.{Plain}
 use Rattle.plain_model.specs.declared.store.Setting.{Setting}
 use Rattle.plain_model.specs.Serving.{after, leave_all}
 use Rattle.plain_model.specs.Store.{word_at}
-use Rattle.plain_laws.specs.Private.{IsServedAlone, private_lines}
+use Rattle.plain_laws.specs.Private.{IsServedAlone, is_private_anchor, private_lines}
 use Rattle.plain_laws.specs.Renaming.{renamed_word}
+use Rattle.store_rule.specs.Ground.{Ground, left_to}
 use Rattle.plain_runs.specs.Ends.{HoldsWholeAt}
+use Rattle.plain_runs.specs.Words.{setting_of}
 
 -- what the private lines of a worker leave of the plain store by themselves, once all its tabs were left
 abbrev pub left_alone : Setting → List Line → (worker : ℕ) → Plain → Plain
 left_alone s script worker p = leave_all (range_with_len 0 8) (after s script (private_lines s script worker) p)
+
+-- the anchor is private to the worker, and left to the pass
+abbrev pub left_private : {X : Type 0} → Ground X → List Line → (worker pass : ℕ) → ℕ → Bool
+left_private g script worker pass a = left_to g pass a && is_private_anchor (setting_of g) script worker a
 
 -- At these anchors the words are those of the plain store, but for versions.
 abbrev pub EndedAs : Setting → (here : ℕ → Bool) → (rename : ℕ → ℕ) → Plain → (last : ℕ → ℕ) → Type 0

@@ -22,3 +22,4 @@ mod Private
 mod Unnamed
 mod UnnamedLast
 mod PrivateAnchors
+pub mod TabsApart

@@ -1,5 +1,5 @@
--- What a worker is answered that is alone at its anchors, and what it leaves there, by a plain store that is opened on the file.
-use Rattle.std.specs.Prelude.{Bool, Contains, List, count_by, length, map, not, true, ◌&&◌, ◌+◌, ◌==◌, ◌≡◌, ◌≤◌, ◌⊎◌, ℕ}
+-- What a worker is answered to its private lines, and what these leave, by a plain store that is opened on the file.
+use Rattle.std.specs.Prelude.{Bool, List, count_by, length, map, not, ◌&&◌, ◌+◌, ◌==◌, ◌≡◌, ◌≤◌, ℕ}
 use Rattle.std.specs.List.{list_all}
 use mathlib.Core.Option.{some}
 use lib.ListN.{get_elem?}
@@ -9,22 +9,17 @@ use Rattle.script_text.specs.Requests.{offers_body}
 use Rattle.script_text.specs.declared.answer.Answer.{Answer}
 use Rattle.script_text.specs.declared.line.Line.{Line}
 use Rattle.plain_model.specs.declared.store.Plain.{Plain}
-use Rattle.plain_model.specs.declared.store.Setting.{Setting}
 use Rattle.plain_model.specs.Opening.{IsOpened}
 use Rattle.plain_model.specs.Serving.{lines_for}
-use Rattle.plain_laws.specs.Private.{is_private, is_private_anchor, names_only}
-use Rattle.plain_runs.specs.Alone.{IsAtMark}
+use Rattle.plain_model.specs.declared.store.Setting.{Setting}
+use Rattle.plain_laws.specs.Private.{is_private_anchor, names_only}
+use Rattle.plain_runs.specs.Alone.{AreTabsApart}
 use Rattle.plain_runs.specs.PrivateRuns.{IsPrivateRun}
 use Rattle.plain_runs.specs.Runs.{setting_over}
 use Rattle.rock_run.specs.Device.{HasEnded}
 use Rattle.run_rules.specs.Fitting.{FitsInto}
 use Rattle.run_rules.specs.Plain.{HasCells}
 use Rattle.run_rules.specs.Runs.{HasImages}
-
--- each line of the worker is private to it, or is at a mark
-abbrev pub IsAlone : Setting → List Line → ℕ → Type 0
-IsAlone s script worker = (line : Line) → Contains (lines_for worker script) line
-    → IsAtMark line.request ⊎ (is_private s script worker line ≡ true)
 
 -- A plain store that is opened on the file, with these images of its slots, into which the script fits.
 pub record OpensWithRoom (files : Files) (name : List ℕ) (slot anchors : ℕ) (script : List Line) (images : List (List ℕ)) (plain : Plain)
@@ -43,15 +38,15 @@ abbrev pub is_own_anchor : Setting → List Line → (worker anchor : ℕ) → B
 is_own_anchor s script worker anchor = is_private_anchor s script worker anchor
     && not (list_all (λ line. names_only s (λ a. not (a == anchor)) line.request) script)
 
--- The worker with this number was given these answers, with the numbers of its lines. Where it is alone at its anchors and the script fits,
--- they are those of the plain store to its lines by themselves, but for the numbers of versions. Of what the lines leave of that, its tabs
--- left, each whole entry at a private anchor stands in the images of the file that was given back, and each anchor that the worker alone
+-- The worker with this number was given these answers, with the numbers of its lines. Where the script fits, and each of its tabs is opened
+-- at private anchors alone or at others alone, those to its private lines are those of the plain store to these lines by themselves, but for
+-- the numbers of versions. Of what these lines leave of that, its tabs left, each whole entry at a private anchor stands in the images of the file that was given back, and each anchor that the worker alone
 -- names had its word at last, with the same numbers.
 abbrev pub IsAnsweredAlone : Files → (name : List ℕ) → (slot anchors : ℕ) → List Line → (worker : ℕ) → List (ℕ × Answer) → (last : ℕ → ℕ)
     → (back : List (List ℕ)) → Type 0
 IsAnsweredAlone files name slot anchors script worker mine last back = (images : List (List ℕ)) (plain : Plain)
     → OpensWithRoom files name slot anchors script images plain
-    → IsAlone (setting_over slot anchors (length images)) script worker
+    → AreTabsApart (setting_over slot anchors (length images)) script worker
     → IsPrivateRun slot (setting_over slot anchors (length images)) script worker plain (map (λ x. x.1) mine)
     (is_private_anchor (setting_over slot anchors (length images)) script worker)
     (is_own_anchor (setting_over slot anchors (length images)) script worker) last back

@@ -13,7 +13,7 @@ use Rattle.plain_model.specs.Store.{place_at}
 use Rattle.plain_laws.specs.Fitting.{Fits}
 use Rattle.worker_pool.specs.Running.{answers_of}
 use Rattle.run_rules.specs.Fitting.{FitsInto}
-use Rattle.run_rules.specs.Private.{IsAlone}
+use Rattle.plain_runs.specs.Alone.{AreTabsApart}
 use Rattle.store_key.specs.Key.{key_of}
 use Rattle.script_text.specs.declared.answer.Answer.{Answer}
 use Rattle.core_model.specs.Anchors.{opening_counter}
@@ -22,7 +22,7 @@ use Rattle.plain_model.specs.Opening.{IsOpened}
 use Rattle.plain_laws.specs.Opened.{HoldsOfFile}
 use Rattle.plain_runs.specs.Runs.{setting_over}
 use Rattle.plain_laws.specs.Private.{is_private}
-use Rattle.store_rule.specs.Ground.{left_to}
+use Rattle.plain_runs.specs.PrivateRuns.{left_private}
 use Rattle.store_rule.specs.Passes.{basis}
 use Rattle.worker_pool.specs.Courses.{Stage}
 use Rattle.rock_run.specs.Offered.{offers_of}
@@ -105,7 +105,7 @@ returns g c tells files left name slot anchors workers script answers before aft
           (λ x among versions is. never_spent explained.run script explained.crew explained.rules suffice answers explained.printed j
           x.line.number versions mine at (subst (λ z. Contains z (x.line.number, answer.Spent versions)) account.is
           (subst (λ (z : Answer). Contains (answers_of account.item) (x.line.number, z)) is (told_of tells g.C.Cell.tells g.C.Cell.state g.St.Station.faults files left name slot anchors workers script answers before after h told account.item x among))))
-          (alone_there tells g.C.Cell.tells g.C.Cell.state g.St.Station.faults files left name slot anchors workers script answers before after h told j fit (subst (λ n. IsAlone (setting_over slot anchors n) script (j + 1)) many alone))
+          (alone_there tells g.C.Cell.tells g.C.Cell.state g.St.Station.faults files left name slot anchors workers script answers before after h told j fit (subst (λ n. AreTabsApart (setting_over slot anchors n) script (j + 1)) many alone))
           (subst (λ n. Fits (setting_over slot anchors n) (lines_for (j + 1) script) plain) many fits_own) in
           let given : map (λ x. x.answer) account.item.stages ≡ map (λ (x : ℕ × Answer). x.1) mine =
           sym (both (λ (x : Stage _). (x.line.number, x.answer)) (λ (x : ℕ × Answer). x.1) account.item.stages)
@@ -119,7 +119,7 @@ returns g c tells files left name slot anchors workers script answers before aft
           (omega (arith, wide, whole)) (omega (arith, from)) (omega (arith, from, to, kept_many, many_kept)) rest.2 rest.0 fits)
           (c.fitting_scripts_have_room.ensures.fewer (setting_over slot anchors (length images)) (lines_for (j + 1) script) plain
           (is_private (setting_over slot anchors (length images)) script (j + 1)) fits_own) rest.3 in
-          at_private slot anchors (length images) script (j + 1) plain _ (left_to ground j) _ _
+          at_private slot anchors (length images) script (j + 1) plain _ (left_private ground script (j + 1) j) _ _
           (own_there tells g.C.Cell.tells g.C.Cell.state g.St.Station.faults files left name slot anchors workers script answers before after h told j images many plain fit)
           unnamed
           (run_over tells g.C.Cell.tells g.C.Cell.state g.St.Station.faults files left name slot anchors workers script answers before after h told j images many plain
