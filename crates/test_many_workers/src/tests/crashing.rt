@@ -108,7 +108,10 @@ fn is_wiped(printed: &str, version: &str) -> bool {
     for line in printed.lines() {
         let mut words = line.split(' ').skip(2);
         let is_answer = words.next() == Some("WIPED");
-        let (wiped, _) = words.next().and_then(|epoch| epoch.split_once('.')).unwrap_or(("", ""));
+        let (wiped, _) = words
+            .next()
+            .and_then(|epoch| epoch.split_once('.'))
+            .unwrap_or(("", ""));
         if is_answer && wiped == version {
             return true;
         }
@@ -185,7 +188,10 @@ fn crash<R: Abort + Threads + Wait + Sync>(
     let images = Images::of(alloc, cells, 4_096)?;
     let printed = std::str::from_utf8(&ended.printed).unwrap_or("");
     look(rt, alloc, &images, offers, printed, looks)?;
-    let wiped = printed.lines().filter(|line| line.contains(" WIPED ")).count();
+    let wiped = printed
+        .lines()
+        .filter(|line| line.contains(" WIPED "))
+        .count();
     looks.wiped = looks.wiped.saturating_add(wiped as u32);
     looks.runs = looks.runs.saturating_add(1);
     Ok(volume.ended().iter().any(|faults| *faults > 0))

@@ -48,16 +48,16 @@ returns-clause-may g c =
 
 pub loop-line-preserved : goal.loop-line-preserved
 loop-line-preserved g c = elim c.if-line-eq1.branch [
-    | then-line-eq1 w ↦ record {
-      store = ap (λ (s : OnShelf g.row.C.Denot (List Line) g.row.St.Denot). s.store) w.shelf-is ∙ w.serve_first.ensures.store ∙ c.loop-line.invariant.store;
-      number = ap (λ (s : OnShelf g.row.C.Denot (List Line) g.row.St.Denot). (view s.pass).pass) w.shelf-is ∙ w.serve_first.ensures.number ∙ c.loop-line.invariant.number;
-      second = subst (λ (p : Pass g.row.C.Denot). MayRest g.C.Cell.tells g.C.Cell.state offers_of c.args.store.now p) (sym w.second-is) c.loop-line.invariant.second;
-      second_number = ap (λ (p : Pass g.row.C.Denot). (view p).pass) w.second-is ∙ c.loop-line.invariant.second_number;
-    }
-    | else-line-eq1 w ↦ record {
-      store = ap (λ (s : OnShelf g.row.C.Denot (List Line) g.row.St.Denot). s.store) w.shelf-is ∙ c.loop-line.invariant.store;
-      number = ap (λ (s : OnShelf g.row.C.Denot (List Line) g.row.St.Denot). (view s.pass).pass) w.shelf-is ∙ c.loop-line.invariant.number;
-      second = subst (λ (p : Pass g.row.C.Denot). MayRest g.C.Cell.tells g.C.Cell.state offers_of c.args.store.now p) (sym w.second-is) w.wipe_for-answer.ensures.may;
-      second_number = ap (λ (p : Pass g.row.C.Denot). (view p).pass) w.second-is ∙ w.wipe_for-answer.ensures.number;
-    }
-  ]
+  | then-line-eq1 w ↦ record {
+    store = ap (λ (s : OnShelf g.row.C.Denot (List Line) g.row.St.Denot). s.store) w.shelf-is ∙ w.serve_first.ensures.store ∙ c.loop-line.invariant.store;
+    number = ap (λ (s : OnShelf g.row.C.Denot (List Line) g.row.St.Denot). (view s.pass).pass) w.shelf-is ∙ w.serve_first.ensures.number ∙ c.loop-line.invariant.number;
+    second = subst (λ (p : Pass g.row.C.Denot). MayRest g.C.Cell.tells g.C.Cell.state offers_of c.args.store.now p) (sym w.second-is) c.loop-line.invariant.second;
+    second_number = ap (λ (p : Pass g.row.C.Denot). (view p).pass) w.second-is ∙ c.loop-line.invariant.second_number;
+  }
+  | else-line-eq1 w ↦ record {
+    store = ap (λ (s : OnShelf g.row.C.Denot (List Line) g.row.St.Denot). s.store) w.shelf-is ∙ c.loop-line.invariant.store;
+    number = ap (λ (s : OnShelf g.row.C.Denot (List Line) g.row.St.Denot). (view s.pass).pass) w.shelf-is ∙ c.loop-line.invariant.number;
+    second = subst (λ (p : Pass g.row.C.Denot). MayRest g.C.Cell.tells g.C.Cell.state offers_of c.args.store.now p) (sym w.second-is) w.wipe_for-answer.ensures.may;
+    second_number = ap (λ (p : Pass g.row.C.Denot). (view p).pass) w.second-is ∙ w.wipe_for-answer.ensures.number;
+  }
+]
