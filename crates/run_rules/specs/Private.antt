@@ -38,10 +38,11 @@ abbrev pub is_own_anchor : Setting → List Line → (worker anchor : ℕ) → B
 is_own_anchor s script worker anchor = is_private_anchor s script worker anchor
     && not (list_all (λ line. names_only s (λ a. not (a == anchor)) line.request) script)
 
--- The worker with this number was given these answers, with the numbers of its lines. Where the script fits, and each of its tabs is opened
--- at private anchors alone or at others alone, those to its private lines are those of the plain store to these lines by themselves, but for
--- the numbers of versions. Of what these lines leave of that, its tabs left, each whole entry at a private anchor stands in the images of the file that was given back, and each anchor that the worker alone
--- names had its word at last, with the same numbers.
+-- The worker with this number was given these answers, with the numbers of its lines. Where the script fits, and each of its tabs is
+-- opened at private anchors alone or at others alone, those to its private lines are those of the plain store to these lines by
+-- themselves, but for the numbers of versions. Of what these lines leave of that, its tabs left, each whole entry at a private anchor
+-- stands in the images of the file that was given back, and each anchor that the worker alone names had its word at last, with the
+-- same numbers.
 abbrev pub IsAnsweredAlone : Files → (name : List ℕ) → (slot anchors : ℕ) → List Line → (worker : ℕ) → List (ℕ × Answer) → (last : ℕ → ℕ)
     → (back : List (List ℕ)) → Type 0
 IsAnsweredAlone files name slot anchors script worker mine last back = (images : List (List ℕ)) (plain : Plain)
