@@ -11,3 +11,4 @@ mod openings;
 mod shelf;
 #[cfg(test)]
 mod stories;
+mod urls;
