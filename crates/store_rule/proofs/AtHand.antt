@@ -10,7 +10,7 @@ use Rattle.core_model.specs.declared.moves.Move.TheVariants.{Enter, Leave, Raise
 use Rattle.core_model.specs.declared.moves.Then.{Then}
 use Rattle.core_model.specs.declared.moves.Then.TheVariants.{GoesOn, Stays, Wiped}
 use Rattle.core_model.specs.declared.view.View.{View}
-use Rattle.store_rule.specs.Ground.{Ground}
+use Rattle.store_rule.specs.Ground.{GroundOf}
 use Rattle.core_model.specs.Tabs.{tab_at, anchor_of}
 use Rattle.core_model.specs.Tabs.{stage_held}
 use Rattle.core_model.specs.Table.{left_by}
@@ -81,7 +81,7 @@ module _ {X : Type 0} where
   pub same_tabs : (v w : View X) (old new : List At) → w.tabs ≡ v.tabs → old ≡ tabs_at v → new ≡ old → new ≡ tabs_at w
   same_tabs v w old new is hand made = made ∙ hand ∙ ap (map at_of) (sym is)
 
-  module _ (g : Ground X) (v w : View X) (t n found : ℕ) (y : At) (old new : List At) (hand : old ≡ tabs_at v) (made : new ≡ set old t y) where
+  module _ {says : Bool} (g : GroundOf says X) (v w : View X) (t n found : ℕ) (y : At) (old new : List At) (hand : old ≡ tabs_at v) (made : new ≡ set old t y) where
     pub entered_hand : (a : ℕ) → Steps g v (Enter t a) n w → found ≡ n → y ≡ entered_here a (epoch_of found) → new ≡ tabs_at w
     entered_hand a st is y_is = tab_set v w t _ y old new (ap View.tabs st.leaves) hand (entered_at X a (epoch_of n) ∙ ap (λ (z : ℕ). entered_here a (epoch_of z)) (sym is) ∙ sym y_is) made
 
@@ -93,7 +93,7 @@ module _ {X : Type 0} where
     raised_hand to st is y_is = tab_set v w t _ y old new (ap View.tabs st.leaves) hand
         (raised_at (tab_at v t) to (left_by v (Raise t to) n) ∙ ap (raised_here (at_of (tab_at v t)) to) (sym is) ∙ sym y_is) made
 
-  module _ (g : Ground X) (v w : View X) (t a n : ℕ) (old new : List At) (hand : old ≡ tabs_at v) where
+  module _ {says : Bool} (g : GroundOf says X) (v w : View X) (t a n : ℕ) (old new : List At) (hand : old ≡ tabs_at v) where
     -- the step found the word expected, and took the anchor or had its entry freed
     pub taken_hand : (u : ℕ) → (st : Steps g v (Take t a u) n w) → n ≡ last_find a v.trail → (idle : Bool) → idle ≡ is_idle n → new ≡ taken_here old t a u idle → new ≡ tabs_at w
     taken_hand u st same idle idle_is made =
@@ -187,11 +187,11 @@ module _ {X : Type 0} where
   stored_at (Last a) side n = refl
   stored_at (Freeing f) side n = refl
 
-  pub loaded_hand : (g : Ground X) (v w : View X) (t : ℕ) (side : Side) (n : ℕ) (y : At) (old new : List At) → old ≡ tabs_at v → y ≡ loaded_here (at_of (tab_at v t)) side n → new ≡ set old t y → Steps g v (LoadSide t side) n w → new ≡ tabs_at w
+  pub loaded_hand : {says : Bool} (g : GroundOf says X) (v w : View X) (t : ℕ) (side : Side) (n : ℕ) (y : At) (old new : List At) → old ≡ tabs_at v → y ≡ loaded_here (at_of (tab_at v t)) side n → new ≡ set old t y → Steps g v (LoadSide t side) n w → new ≡ tabs_at w
   loaded_hand g v w t side n y old new hand y_is made st = tab_set v w t _ y old new (ap View.tabs st.leaves) hand (loaded_at (tab_at v t) side n ∙ sym y_is) made
 
-  pub followed_hand : (g : Ground X) (v w : View X) (t slot n : ℕ) (y : At) (old new : List At) → old ≡ tabs_at v → y ≡ followed_here (at_of (tab_at v t)) (link_of n) → new ≡ set old t y → (st : Steps g v (GetLink t slot) n w) → LinkFound st.state (tab_at v t) n → new ≡ tabs_at w
+  pub followed_hand : {says : Bool} (g : GroundOf says X) (v w : View X) (t slot n : ℕ) (y : At) (old new : List At) → old ≡ tabs_at v → y ≡ followed_here (at_of (tab_at v t)) (link_of n) → new ≡ set old t y → (st : Steps g v (GetLink t slot) n w) → LinkFound st.state (tab_at v t) n → new ≡ tabs_at w
   followed_hand g v w t slot n y old new hand y_is made st found = tab_set v w t _ y old new (ap View.tabs st.leaves) hand (looked_at st.state (tab_at v t) n found ∙ sym y_is) made
 
-  pub stored_hand : (g : Ground X) (v w : View X) (t : ℕ) (side : Side) (value n : ℕ) (hand : List At) → hand ≡ tabs_at v → Steps g v (StoreSide t side value) n w → hand ≡ tabs_at w
+  pub stored_hand : {says : Bool} (g : GroundOf says X) (v w : View X) (t : ℕ) (side : Side) (value n : ℕ) (hand : List At) → hand ≡ tabs_at v → Steps g v (StoreSide t side value) n w → hand ≡ tabs_at w
   stored_hand g v w t side value n hand is st = same_hand v w t _ hand (ap View.tabs st.leaves) (stored_at (tab_at v t) side value) is

@@ -25,7 +25,7 @@ use Rattle.core_model.proofs.Holders.{has_holder}
 use Rattle.core_model.proofs.Lists.{le_sum_at, set_else, sum_at}
 use Rattle.store_rule.specs.declared.store.Pass.{Pass}
 use Rattle.store_rule.specs.Closing.{Closed, Gathered, IsEnded, IsResting, views_of}
-use Rattle.store_rule.specs.Ground.{Ground}
+use Rattle.store_rule.specs.Ground.{GroundOf}
 use Rattle.store_rule.specs.Passes.{view}
 use Rattle.store_rule.specs.Ruled.{Ruled, place_shown, state_of}
 use Rattle.store_rule.specs.Setting.{form_of, shown}
@@ -72,7 +72,7 @@ module _ {X : Type 0} where
   no_turn h e = cc
 
   -- the views of all passes stand in a state, each with nine tabs that are free
-  module _ (g : Ground X) (views : List (View X)) (a : Gathered g views) (many : length views ≡ g.setting.passes) (nine : (j : ℕ) (v : View X) → get_elem? views j ≡ some v → length v.tabs ≡ 9)
+  module _ {says : Bool} (g : GroundOf says X) (views : List (View X)) (a : Gathered g views) (many : length views ≡ g.setting.passes) (nine : (j : ℕ) (v : View X) → get_elem? views j ≡ some v → length v.tabs ≡ 9)
       (free : (j : ℕ) (v : View X) → get_elem? views j ≡ some v → (t : ℕ) (x : Tab X) → get_elem? v.tabs t ≡ some x → x ≡ Free) where
     pub others : (i : ℕ) (v : View X) → get_elem? a.state.views i ≡ some v → ((j : ℕ) × (j < length views) × (a.index j ≡ i)) ⊎ (v.tabs ≡ [])
     others i v at = ⊎_elim
@@ -167,7 +167,7 @@ module _ {C : Type 0} (tells : Bool) (cell : C → CellState) where
   many_row [] = refl
   many_row (c ∷ row) = ap suc (many_row row)
 
-  module _ (g : Ground (List ℕ)) (passes : List (Pass C)) (all : length passes ≡ g.setting.passes) (rest : All IsResting passes) (id : ℕ) (row : List (View (List ℕ))) (row_is : row ≡ views_of passes)
+  module _ {says : Bool} (g : GroundOf says (List ℕ)) (passes : List (Pass C)) (all : length passes ≡ g.setting.passes) (rest : All IsResting passes) (id : ℕ) (row : List (View (List ℕ))) (row_is : row ≡ views_of passes)
       (words : List ℕ) (xs : List (Option C)) (final : Final (Seen (Ruled (form_of tells cell) g) id row) words xs) (many : length xs ≡ g.setting.slots) where
     ruled : Ruled (form_of tells cell) g final.0
     ruled = final.1.0

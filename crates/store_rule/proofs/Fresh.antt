@@ -21,7 +21,7 @@ use Rattle.core_table.specs.Kept.{opened_chains}
 use Rattle.core_model.proofs.Lists.{contains_none}
 use Rattle.rebuild_model.specs.declared.found.Found.{Found}
 use Rattle.rebuild_model.specs.declared.rebuilt.Rebuilt.{Rebuilt}
-use Rattle.store_rule.specs.Ground.{Ground, Rule}
+use Rattle.store_rule.specs.Ground.{GroundOf, Rule}
 use Rattle.store_rule.specs.Rebuilding.{HoldNothing, IsRebuildOf, at_home, chain_kept, none_kept, opened_state}
 use Rattle.store_rule.specs.Setting.{IsRow, IsSettled, form_of, now_in, shown}
 use Rattle.store_rule.specs.Ruled.{Ruled, Seated, place_shown}
@@ -107,7 +107,7 @@ module _ {X : Type 0} (k : Setting X) where
   views_more from n = let z : n + 1 ≡ suc n = omega arith in ap (new_views k from) z
 
 -- a row of a new view
-pub new_row : {X : Type 0} → (g : Ground X) (row : List (View X)) (n : ℕ) → row ≡ new_view g.setting n ∷ [] → Stands g (new_view g.setting n) → Stands g (the_view row) × (the_view row ≡ new_view g.setting (the_view row).pass)
+pub new_row : {X : Type 0} → {says : Bool} (g : GroundOf says X) (row : List (View X)) (n : ℕ) → row ≡ new_view g.setting n ∷ [] → Stands g (new_view g.setting n) → Stands g (the_view row) × (the_view row ≡ new_view g.setting (the_view row).pass)
 new_row g row n is st = let e : the_view row ≡ new_view g.setting n = ap the_view is in (subst (Stands g) (sym e) st, e ∙ ap (new_view g.setting) (sym (ap View.pass e)))
 
 pub all_end : {A : Type 0} (P : A → Type 0) (xs : List A) (y : A) (zs : List A) → zs ≡ xs ++ y ∷ [] → All P xs → P y → All P zs
@@ -150,7 +150,7 @@ module _ {C : Type 0} (tells : Bool) (state : C → CellState) where
   home_of (x ∷ xs) zero c e = ap some (some_same x c (some-injective (Some x) (Some c) (some-injective (some (Some x)) (some (Some c)) e)))
   home_of (x ∷ xs) (suc j) c e = home_of xs j c e
 
-  pub opens_ruled : (g : Ground (List ℕ)) (kept : List Found) (ws : List ℕ) (xs : List C) → ws ≡ g.setting.words → g.setting.contents ≡ map (now_in tells state) (map Some xs) → All (IsSettled tells state) xs
+  pub opens_ruled : {says : Bool} (g : GroundOf says (List ℕ)) (kept : List Found) (ws : List ℕ) (xs : List C) → ws ≡ g.setting.words → g.setting.contents ≡ map (now_in tells state) (map Some xs) → All (IsSettled tells state) xs
       → IsRow state g.slot xs → Rule g (opened_state g.setting kept) → Ruled (form_of tells state) g (opening ws (map Some xs) (new_views g.setting 0 g.setting.passes))
   opens_ruled g kept ws xs words_are contents_are settled row rule = let k : Setting (List ℕ) = g.setting in record {
     views = new_views k 0 k.passes;

@@ -1,5 +1,5 @@
 -- A step that the core allows is allowed on the table, where the word becomes what the core makes of it.
-use Rattle.std.proofs.Common.{◌≡◌, inl, inr, ℕ, zero, suc, List, [], ◌∷◌, set, get_or, sym, refl, ap, ◌∙◌, subst, Option}
+use Rattle.std.proofs.Common.{Bool, ◌≡◌, inl, inr, ℕ, zero, suc, List, [], ◌∷◌, set, get_or, sym, refl, ap, ◌∙◌, subst, Option}
 use mathlib.Core.Option.{some, some-injective}
 use lib.ListN.{get_elem?}
 use Rattle.atomic_table.specs.Table.{Me, Allows}
@@ -20,10 +20,10 @@ use Rattle.store_rule.proofs.RuleKept.{rule_after, rule_rewritten, rule_wiped}
 use Rattle.store_rule.proofs.Seating.{reseated, set_twice}
 use Rattle.core_model.specs.Tabs.{IsPass}
 use Rattle.core_model.specs.TableForms.{renewed}
-use Rattle.store_rule.specs.Ground.{Asks, Ground, Rule}
+use Rattle.store_rule.specs.Ground.{Asks, GroundOf, Rule, SomeGround, packed}
 
 -- A view becomes another one by no step: the rule holds of the state with that view.
-pub becomes_so : {X : Type 0} → (g : Ground X) (s : State X) (i : ℕ) (v u : View X) → Rule g s → get_elem? s.views i ≡ some v → IsPass v → Becomes g.setting v u → Rule g (renewed s (set s.views i u))
+pub becomes_so : {X : Type 0} → {says : Bool} (g : GroundOf says X) (s : State X) (i : ℕ) (v u : View X) → Rule g s → get_elem? s.views i ≡ some v → IsPass v → Becomes g.setting v u → Rule g (renewed s (set s.views i u))
 becomes_so {X} g s i v u r at pass (inl same) = subst (λ (vs : List (View X)). Rule g (renewed s vs)) (sym (set_as_was s.views i v u at same)) r
   where
     set_as_was : (xs : List (View X)) (i : ℕ) (v u : View X) → get_elem? xs i ≡ some v → v ≡ u → set xs i u ≡ xs
@@ -35,13 +35,13 @@ becomes_so {X} g s i v u r at pass (inr (inl h)) = subst (λ (z : View X). Rule 
 becomes_so {X} g s i v u r at pass (inr (inr h)) = subst (λ (z : View X). Rule g (renewed s (set s.views i z))) (sym h.is)
     (rule_wiped g s i v h.tab h.freer h.old h.new r at pass h.may)
 
-module _ {C X : Type 0} (form : Form C X) (g : Ground X) where
-  pub granted : (slots id : ℕ) (me : Me (Option C) (List (View X))) (m d : Move) (u e : View X) (j : Ground X) (i : ℕ) (p : Place) (f : ℕ → ℕ)
-      → i ≡ index g.setting p → m ≡ d → u ≡ e → g ≡ j → me.0 ≡ the_view me.0 ∷ [] → IsPass (the_view me.0) → Becomes g.setting (the_view me.0) u → MayMake g.setting u m → Asks g u m
+module _ {C X : Type 0} (form : Form C X) {says : Bool} (g : GroundOf says X) where
+  pub granted : (slots id : ℕ) (me : Me (Option C) (List (View X))) (m d : Move) (u e : View X) (j : SomeGround X) (i : ℕ) (p : Place) (f : ℕ → ℕ)
+      → i ≡ index g.setting p → m ≡ d → u ≡ e → packed g ≡ j → me.0 ≡ the_view me.0 ∷ [] → IsPass (the_view me.0) → Becomes g.setting (the_view me.0) u → MayMake g.setting u m → Asks g u m
       → OnWord g.setting u m p → Same g u m p f → CanAct form g u me.1 m p
-      → Allows (Ruled form g) slots id me i f (Told form j d e me)
+      → Allows (Ruled form g) slots id me i f (Told form j.ground d e me)
   granted slots id me m d u e j i p f here named from_so set_so one pass becomes may asks on same act =
-      subst (λ (z : ((ℕ × Move) × View X) × Ground X). Allows (Ruled form g) slots id me z.0.0.0 f (Told form z.1 z.0.0.1 z.0.1 me)) (λ q. (((sym here q, named q), from_so q), set_so q))
+      subst (λ (z : ((ℕ × Move) × View X) × SomeGround X). Allows (Ruled form g) slots id me z.0.0.0 f (Told form z.1.ground z.0.0.1 z.0.1 me)) (λ q. (((sym here q, named q), from_so q), set_so q))
       (λ s r deep at fits.
       let k : Setting X = g.setting in let v : View X = the_view me.0 in let a = r.seated.index id 0 in
       let row : get_elem? s.views id ≡ some (v ∷ []) = at ∙ ap some one in

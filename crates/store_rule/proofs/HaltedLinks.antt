@@ -1,5 +1,5 @@
 -- What a pass found of an entry that was given up it finds again.
-use Rattle.std.proofs.Common.{◌≡◌, ℕ, ◌<◌, ◌≤◌, sym, ◌∙◌, subst, arith}
+use Rattle.std.proofs.Common.{Bool, ◌≡◌, ℕ, ◌<◌, ◌≤◌, sym, ◌∙◌, subst, arith}
 use Rattle.core_model.specs.declared.moves.Move.{Move}
 use Rattle.core_model.specs.declared.moves.Move.TheVariants.{GetLink, Look}
 use Rattle.core_model.specs.declared.tab.Reader.{Reader}
@@ -10,10 +10,10 @@ use Rattle.core_model.proofs.Tabs.{tab_there}
 use Rattle.core_halts.specs.Halts.{FoundEnd, HasHalted, SaysHalted}
 use Rattle.core_halts.proofs.Ends.{reads_halted, reads_no_link}
 use Rattle.core_halts.proofs.Trails.{end_after, halted_after, link_found, look_found}
-use Rattle.store_rule.specs.Ground.{Ground}
+use Rattle.store_rule.specs.Ground.{GroundOf}
 use Rattle.store_rule.specs.Told.{Steps, found_as}
 
-module _ {X : Type 0} (g : Ground X) (v w : View X) where
+module _ {X : Type 0} {says : Bool} (g : GroundOf says X) (v w : View X) where
   -- a look at the anchor, and one at a link behind it
   pub looked_halted : (n a version : ℕ) → Steps g v (Look a) n w → SaysHalted version n → HasHalted a version w.trail
   looked_halted n a version st says = subst (λ (z : View X). HasHalted a version z.trail) (sym st.leaves) (look_found a version v (found_as g.setting st.state v (Look a) n) says)

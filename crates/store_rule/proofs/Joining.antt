@@ -1,5 +1,5 @@
 -- A row of views is joined with another: the rule holds afterwards.
-use Rattle.std.proofs.Common.{◌≤◌, List, [], ap, arith, cond, length, ltb, refl, set, subst, suc, sym, zero, ◌+◌, ◌++◌, ◌-◌, ◌<◌, ◌==◌, ◌≡◌, ◌≢◌, ◌⊎◌, ◌∙◌, ◌∷◌, ⊎_elim, inl, inr, eq-eqb, ne_eqb, ℕ}
+use Rattle.std.proofs.Common.{Bool, ◌≤◌, List, [], ap, arith, cond, length, ltb, refl, set, subst, suc, sym, zero, ◌+◌, ◌++◌, ◌-◌, ◌<◌, ◌==◌, ◌≡◌, ◌≢◌, ◌⊎◌, ◌∙◌, ◌∷◌, ⊎_elim, inl, inr, eq-eqb, ne_eqb, ℕ}
 use Rattle.std.proofs.lemmas.Bool.{le-ltb, lt-ltb}
 use mathlib.Core.Option.{some, some-ne-none}
 use lib.ListN.{get_elem?}
@@ -7,7 +7,7 @@ use Rattle.atomic_table.specs.Table.{Joins}
 use Rattle.core_model.proofs.Lists.{at_set, set_else}
 use Rattle.core_model.specs.declared.view.View.{View}
 use Rattle.store_rule.specs.Closing.{in_front}
-use Rattle.store_rule.specs.Ground.{Ground}
+use Rattle.store_rule.specs.Ground.{GroundOf}
 use Rattle.store_rule.specs.Ruled.{Form, Ruled, Seated}
 
 module _ {A : Type 0} where
@@ -88,7 +88,7 @@ module _ {X : Type 0} (rows : List (List (View X))) (views : List (View X)) (se 
         let z : (p, q) ≡ (a, b) = sym w.back ∙ (λ r. placed (d.0 r) (d.1 r)) ∙ u.back in (ap (λ (r : ℕ × ℕ). r.0) z, ap (λ (r : ℕ × ℕ). r.1) z);
   }
 
-module _ {C X : Type 0} (form : Form C X) (g : Ground X) where
+module _ {C X : Type 0} (form : Form C X) {says : Bool} (g : GroundOf says X) where
   pub pass_joins : (id : ℕ) (row : List (View X)) (other : ℕ) (more : List (View X)) → Joins (Ruled form g) id row other more (in_front row more) []
   pass_joins id row other more s r at far there = record {
     views = r.views;

@@ -1,5 +1,5 @@
 -- Who may come to an anchor that is left to one pass.
-use Rattle.std.proofs.Common.{◌≤◌, ◌≡◌, ◌⊎◌, inl, inr, ⊎_elim, ℕ, ◌==◌, ◌&&◌, true, Option, Some, None, sym, refl, ap, arith}
+use Rattle.std.proofs.Common.{Bool, ◌≤◌, ◌≡◌, ◌⊎◌, inl, inr, ⊎_elim, ℕ, ◌==◌, ◌&&◌, true, Option, Some, None, sym, refl, ap, arith}
 use Rattle.std.proofs.lemmas.Bool.{and_parts, eqb-true, or_cases}
 use mathlib.Core.Option.{some}
 use lib.ListN.{get_elem?}
@@ -16,21 +16,21 @@ use Rattle.core_model.proofs.Tabs.{tab_there}
 use Rattle.core_alone.specs.Alone.{ComesRight, MayCome, StandsAlone}
 use Rattle.core_alone.proofs.Coming.{comes_lone}
 use Rattle.core_alone.proofs.Finding.{has_tabs}
-use Rattle.store_rule.specs.Ground.{Asks, Ground, MayName, alone_of, fits, is_that, left_to}
+use Rattle.store_rule.specs.Ground.{Asks, GroundOf, MayName, alone_of, fits, is_that, left_to}
 
 that_one : (p : ℕ) (o : Option ℕ) → is_that p o ≡ true → o ≡ Some p
 that_one p None h = cc
 that_one p (Some q) h = ap Some (sym (eqb-true p q h))
 
 -- why an anchor is left to a pass
-pub left_cases : {X : Type 0} → (g : Ground X) (p a : ℕ) → left_to g p a ≡ true → (g.setting.passes ≡ 1) ⊎ ((fits g ≡ true) × (alone_of g a ≡ Some p))
+pub left_cases : {X : Type 0} → {says : Bool} (g : GroundOf says X) (p a : ℕ) → left_to g p a ≡ true → (g.setting.passes ≡ 1) ⊎ ((fits g ≡ true) × (alone_of g a ≡ Some p))
 unfolding left_to
 left_cases g p a h = ⊎_elim
     (λ (one : (g.setting.passes == 1) ≡ true). inl (eqb-true g.setting.passes 1 one))
     (λ (q : (fits g && is_that p (alone_of g a)) ≡ true). let both = and_parts (fits g) (is_that p (alone_of g a)) q in inr (both.0, that_one p (alone_of g a) both.1))
     (or_cases (g.setting.passes == 1) (fits g && is_that p (alone_of g a)) h)
 
-module _ {X : Type 0} (g : Ground X) (s : State X) (so : AnchorsSound g.setting s) (i : ℕ) (v : View X) (at : get_elem? s.views i ≡ some v) (pass : IsPass v) where
+module _ {X : Type 0} {says : Bool} (g : GroundOf says X) (s : State X) (so : AnchorsSound g.setting s) (i : ℕ) (v : View X) (at : get_elem? s.views i ≡ some v) (pass : IsPass v) where
   -- one that may name the anchor
   may_come : (a : ℕ) → MayName g v a → MayCome (left_to g) s i a
   may_come a names j u uat owns = ⊎_elim

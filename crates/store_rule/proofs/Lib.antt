@@ -3,6 +3,7 @@ pub mod Seating
 pub mod RestsEnd
 pub mod HaltedShort
 pub mod RoomKept
+pub mod Saying
 pub mod RuleKept
 pub mod Granted
 pub mod Moves

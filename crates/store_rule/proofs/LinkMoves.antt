@@ -25,7 +25,7 @@ use Rattle.core_model.specs.declared.tab.Tab.{Tab}
 use Rattle.core_model.specs.declared.view.Place.TheVariants.{Link as LinkWord}
 use Rattle.core_model.specs.declared.view.View.{View}
 use Rattle.core_model.proofs.FollowsKept.{followed, link_of_number}
-use Rattle.store_rule.specs.Ground.{Asks, Ground, Rule}
+use Rattle.store_rule.specs.Ground.{Asks, GroundOf, Rule}
 use Rattle.store_rule.specs.Machine.{StepsOn}
 use Rattle.store_rule.specs.Ruled.{Form}
 use Rattle.tab_states.specs.Tabs.{HasLooseRoom, HasPlace, at_of, freeing_at, is_next, link_seen, loosened_here, loosened_tabs, reserved_here, tabs_at}
@@ -78,7 +78,7 @@ rest_few : (xs : List ℕ) (x : ℕ) → times x (rest_of xs) ≤ times x xs
 rest_few [] x = omega arith
 rest_few (y ∷ ys) x = omega arith
 
-module _ {X : Type 0} (g : Ground X) (s : State X) (r : Rule g s) where
+module _ {X : Type 0} {says : Bool} (g : GroundOf says X) (s : State X) (r : Rule g s) where
   -- the slot that the last link of an entry names, at a stage at which it is read
   end_inside : (a : ℕ) → a < g.setting.anchors → 2 ≤ stage_of (epoch_of (word s a)) → stage_of (epoch_of (word s a)) ≤ 4 → (x : ℕ) → (chain_of s a).end ≡ Next x → x < g.setting.slots
   end_inside a lt low high x e = by_stage (stage_of (epoch_of (word s a))) refl low high
@@ -126,7 +126,7 @@ module _ {X : Type 0} (g : Ground X) (s : State X) (r : Rule g s) where
   link_of_tab i v at t slot (Tab.Writing x) there may n h = absurd (⊎_elim (λ (z : ⊥). z) (λ (z : ⊥). z) may)
   link_of_tab i v at t slot (Tab.Last a) there may n h = absurd (⊎_elim (λ (z : ⊥). z) (λ (z : ⊥). z) may)
 
-module _ {X : Type 0} (g : Ground X) where
+module _ {X : Type 0} {says : Bool} (g : GroundOf says X) where
   -- the link that a step finds names a slot of 32 bits, if any
   pub link_fits : (v w : View X) (t slot n : ℕ) → g.setting.slots ≤ 4294967295 → MayMake g.setting v (GetLink t slot) → Steps g v (GetLink t slot) n w → n ≤ 4294967297
   link_fits v w t slot n few may st = let p = st.may.pass in let le = may.allowed.0 in
@@ -240,7 +240,7 @@ module _ {X : Type 0} (g : Ground X) where
   pub was_unwritten : (v w : View X) (t slot : ℕ) (link : Link) (n : ℕ) → Steps g v (Publish t slot link) n w → n ≡ 0
   was_unwritten v w t slot link n st = (known_of g v (Publish t slot link) n w st).slots
 
-module _ {C X : Type 0} (form : Form C X) (g : Ground X) (z : TableId) (seat : Seat (Option C) (List (View X))) (own : seat.table_id ≡ z) (sized : z.words ≡ word_count g.setting) (one_view : seat.me.0 ≡ the_view seat.me.0 ∷ []) where
+module _ {C X : Type 0} (form : Form C X) {says : Bool} (g : GroundOf says X) (z : TableId) (seat : Seat (Option C) (List (View X))) (own : seat.table_id ≡ z) (sized : z.words ≡ word_count g.setting) (one_view : seat.me.0 ≡ the_view seat.me.0 ∷ []) where
   abbrev v : View X
   v = the_view seat.me.0
 

@@ -11,7 +11,7 @@ use Rattle.core_model.specs.AllowedByView.{MayMake}
 use Rattle.core_model.specs.CellMoves.{logs}
 use Rattle.core_model.specs.Layout.{word_count}
 use Rattle.core_model.specs.Tabs.{tab_at}
-use Rattle.store_rule.specs.Ground.{Asks, Ground}
+use Rattle.store_rule.specs.Ground.{Asks, GroundOf}
 use Rattle.store_rule.specs.Machine.{StepsOn}
 use Rattle.store_rule.specs.Ruled.{Form}
 use Rattle.store_rule.specs.Told.{Steps, the_view}
@@ -34,10 +34,10 @@ module _ {X : Type 0} where
   logs_at (Tab.Freeing f) slot durable = refl
 
   -- what is at hand of the tabs stays
-  pub logged_hand : (g : Ground X) (v w : View X) (t slot : ℕ) (durable : Bool) (n : ℕ) (hand : List At) → hand ≡ tabs_at v → Steps g v (LogPiece t slot durable) n w → hand ≡ tabs_at w
+  pub logged_hand : {says : Bool} (g : GroundOf says X) (v w : View X) (t slot : ℕ) (durable : Bool) (n : ℕ) (hand : List At) → hand ≡ tabs_at v → Steps g v (LogPiece t slot durable) n w → hand ≡ tabs_at w
   logged_hand g v w t slot durable n hand is st = same_hand v w t _ hand (ap View.tabs st.leaves) (logs_at (tab_at v t) slot durable) is
 
-module _ {C X : Type 0} (form : Form C X) (g : Ground X) (z : TableId) (seat : Seat (Option C) (List (View X))) (own : seat.table_id ≡ z) (sized : z.words ≡ word_count g.setting) (one : seat.me.0 ≡ the_view seat.me.0 ∷ []) where
+module _ {C X : Type 0} (form : Form C X) {says : Bool} (g : GroundOf says X) (z : TableId) (seat : Seat (Option C) (List (View X))) (own : seat.table_id ≡ z) (sized : z.words ≡ word_count g.setting) (one : seat.me.0 ≡ the_view seat.me.0 ∷ []) where
   abbrev v : View X
   v = the_view seat.me.0
 

@@ -28,7 +28,7 @@ use Rattle.core_model.proofs.Places.{within}
 use Rattle.core_alone.proofs.Finding.{finds_side, finds_word, has_tabs}
 use Rattle.core_alone.specs.Alone.{IsTabAt, KnowsAlone, is_unlinked}
 use Rattle.core_alone.proofs.LinkSteps.{link_found, look_finds, loosen_finds, publish_finds}
-use Rattle.store_rule.specs.Ground.{Ground, Rule, left_to}
+use Rattle.store_rule.specs.Ground.{GroundOf, Rule, left_to}
 use Rattle.store_rule.specs.Told.{Steps}
 use Rattle.store_rule.specs.Words.{Mine, has, is_mine}
 use Rattle.store_rule.proofs.Moves.{known_of}
@@ -39,11 +39,11 @@ below_or_not m n = dite (ℕ_discrete (n - m) 0)
     (λ ne. let t : nat_lt m n ≡ true = grind (arith, nat_tests) in inl (omega arith, t))
 
 -- each anchor is left to the only pass of a store
-pub left_lone : {X : Type 0} → (g : Ground X) (pass a : ℕ) → g.setting.passes ≡ 1 → left_to g pass a ≡ true
+pub left_lone : {X : Type 0} → {says : Bool} (g : GroundOf says X) (pass a : ℕ) → g.setting.passes ≡ 1 → left_to g pass a ≡ true
 unfolding left_to
 left_lone g pass a one = let e = eq-eqb g.setting.passes 1 one in rw e refl
 
-module _ {X : Type 0} (g : Ground X) (pass : ℕ) where
+module _ {X : Type 0} {says : Bool} (g : GroundOf says X) (pass : ℕ) where
   mine_cases : (word : ℕ) → is_mine g pass word ≡ true → ((word < 5 * g.setting.anchors) × (left_to g pass (word / 5) ≡ true)) ⊎ (g.setting.passes ≡ 1)
   mine_cases word h = ⊎_elim
       (λ (q : (word < 5 * g.setting.anchors) × (nat_lt word (5 * g.setting.anchors) ≡ true)). inl (q.0, subst (λ (b : Bool). cond b (left_to g pass (word / 5)) (g.setting.passes == 1) ≡ true) q.1 h))
@@ -65,16 +65,16 @@ module _ {X : Type 0} (g : Ground X) (pass : ℕ) where
       (mine_cases word h)
 
 -- it is so of the same place, and of each view of the same pass
-pub mine_as : {X : Type 0} → (g : Ground X) (v w : View X) (p q : Place) → w.pass ≡ v.pass → p ≡ q → Mine g v p → Mine g w q
+pub mine_as : {X : Type 0} → {says : Bool} (g : GroundOf says X) (v w : View X) (p q : Place) → w.pass ≡ v.pass → p ≡ q → Mine g v p → Mine g w q
 mine_as g v w p q pass same mine = subst (λ (z : ℕ). is_mine g z (index g.setting q) ≡ true) (sym pass) (subst (λ (z : Place). is_mine g v.pass (index g.setting z) ≡ true) same mine)
 
 -- what a pass has of words is told by what it changed and did
-pub has_same : {X : Type 0} → (g : Ground X) (v u : View X) → u.mirror ≡ v.mirror → u.trail ≡ v.trail → (q : Place) → has g u q ≡ has g v q
+pub has_same : {X : Type 0} → {says : Bool} (g : GroundOf says X) (v u : View X) → u.mirror ≡ v.mirror → u.trail ≡ v.trail → (q : Place) → has g u q ≡ has g v q
 has_same g v u mirror trail (Link x) = λ i. cond (is_unlinked x (trail i)) 0 (mirrored g.setting (index g.setting (Link x)) (mirror i))
 has_same g v u mirror trail q = ap (mirrored g.setting (index g.setting q)) mirror
 
 -- In a store with one pass each word of the table is as that pass has it.
-module _ {X : Type 0} (g : Ground X) (lone : g.setting.passes ≡ 1) (s : State X) (i : ℕ) (v : View X) (rule : Rule g s) (at : get_elem? s.views i ≡ some v) (pass : IsPass v) where
+module _ {X : Type 0} {says : Bool} (g : GroundOf says X) (lone : g.setting.passes ≡ 1) (s : State X) (i : ℕ) (v : View X) (rule : Rule g s) (at : get_elem? s.views i ≡ some v) (pass : IsPass v) where
   mirror_is : (q : Place) → IsPlace g.setting q → mirrored g.setting (index g.setting q) v.mirror ≡ word_in g.setting s.words q
   mirror_is q here = rule.sound.anchors.mirror lone i v at (has_tabs v pass) (index g.setting q) (within g.setting q here)
 
@@ -105,7 +105,7 @@ module _ {X : Type 0} (g : Ground X) (lone : g.setting.passes ≡ 1) (s : State 
   word_alone (Link x) here = let y = one_spot g.setting s rule.sound.anchors.shaped rule.sound.slots x here in at_spot x here y.spot y.is_in
   word_alone q here = sym (mirror_is q here)
 
-module _ {X : Type 0} (g : Ground X) (v w : View X) (m : Move) (n : ℕ) (st : Steps g v m n w) where
+module _ {X : Type 0} {says : Bool} (g : GroundOf says X) (v w : View X) (m : Move) (n : ℕ) (st : Steps g v m n w) where
   found_beside : (side : Side) (a at : ℕ) → at < 5 * g.setting.anchors → at / 5 ≡ a → left_to g v.pass (at / 5) ≡ true → place v m ≡ Some (Beside side a) → n ≡ has g v (Beside side a)
   found_beside side a at lt row left is = st.found ∙ finds_side (left_to g) g.setting st.state st.index v m st.rule.alone st.at st.may side a (omega arith) (subst (λ (z : ℕ). left_to g v.pass z ≡ true) row left) is
 
@@ -132,7 +132,7 @@ module _ {X : Type 0} (g : Ground X) (v w : View X) (m : Move) (n : ℕ) (st : S
       (λ (one : g.setting.passes ≡ 1). found_lone p one is)
       (mine_cases g v.pass (index g.setting p) mine)
 
-module _ {X : Type 0} (g : Ground X) where
+module _ {X : Type 0} {says : Bool} (g : GroundOf says X) where
   -- where nobody else changes a word a step finds what its pass has
   pub found_mine : (v w : View X) (m : Move) (n : ℕ) (p : Place) → Steps g v m n w → Mine g v p → place v m ≡ Some p → n ≡ has g v p
   found_mine v w m n p st mine is = finds_mine g v w m n st p mine is

@@ -18,7 +18,7 @@ use Rattle.tab_states.specs.Hands.{AreAllHands, AreHands}
 use Rattle.tab_states.specs.declared.desks.Desk.{Desk}
 use Rattle.store_rule.specs.declared.store.Pass.{Pass}
 use Rattle.store_rule.specs.declared.store.Store.{Store}
-use Rattle.store_rule.specs.Ground.{Offers}
+use Rattle.store_rule.specs.Ground.{OffersOf}
 use Rattle.core_model.specs.Layout.{Setting}
 use Rattle.store_rule.specs.Told.{Stands, the_view}
 use Rattle.store_rule.specs.Passes.{AreNumbered, HaveOwnPages, IsNewOf, basis, first_cells, view}
@@ -28,7 +28,7 @@ use Rattle.store_rule.proofs.Joining.{in_two}
 pub nine_words : (words : List ℕ) → words ≡ replicate 9 0 → length words ≡ 9
 nine_words words is = ap length is
 
-module _ {C O : Type 0} (tells : Bool) (state : C → CellState) (offers : O → Offers) (s : Store C O) where
+module _ {C O : Type 0} (tells : Bool) (state : C → CellState) {says : Bool} (offers : O → OffersOf says) (s : Store C O) where
   pub is_new : (p : Pass C) (seat : Seat (Option C) (List (View (List ℕ)))) (h : Hands) (n first : ℕ) (pages : PoolSeat) → p.seat ≡ seat → p.pages ≡ pages → p.desks ≡ h.desks → p.hand ≡ 0
       → seat.table_id ≡ s.table.shared.table_id → seat.me.0 ≡ new_view (basis tells state offers s).setting n ∷ [] → seat.me.1 ≡ [] → Stands (basis tells state offers s) (new_view (basis tells state offers s).setting n)
       → AreHands (basis tells state offers s).slot first h → IsSeatOf s.pool pages → IsNewOf tells state offers s p

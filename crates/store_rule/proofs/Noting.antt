@@ -1,5 +1,5 @@
 -- A note is made, and learned, and a pass is cut off: the rule holds afterwards.
-use Rattle.std.proofs.Common.{◌≡◌, ◌≢◌, ◌⊎◌, inl, inr, ⊎_elim, ℕ, zero, suc, ◌<◌, List, [], ◌∷◌, ◌++◌, length, set, sym, refl, ap, ◌∙◌, subst, arith, cond, ◌==◌, eq-eqb, ne_eqb, length-set, Contains}
+use Rattle.std.proofs.Common.{Bool, ◌≡◌, ◌≢◌, ◌⊎◌, inl, inr, ⊎_elim, ℕ, zero, suc, ◌<◌, List, [], ◌∷◌, ◌++◌, length, set, sym, refl, ap, ◌∙◌, subst, arith, cond, ◌==◌, eq-eqb, ne_eqb, length-set, Contains}
 use Rattle.std.proofs.lemmas.List.Elements.{Contains-append_left}
 use mathlib.Core.Option.{some, some-injective, some-ne-none}
 use lib.ListN.{get_elem?}
@@ -16,7 +16,7 @@ use Rattle.core_model.proofs.NotesFrame.{IsSeen, known_view, known_none, known_b
 use Rattle.core_model.specs.TableForms.{renewed}
 use Rattle.core_alone.proofs.Renewed.{alone_appended, alone_emptied, alone_learned}
 use Rattle.core_halts.proofs.Renewed.{halts_appended, halts_emptied, halts_learned, learned_nowhere, noted_nowhere}
-use Rattle.store_rule.specs.Ground.{Ground, Rule, left_to}
+use Rattle.store_rule.specs.Ground.{GroundOf, Rule, SomeGround, left_to, packed}
 use Rattle.core_model.proofs.NotesRenewed.{noted, learned, learns_goes, pass_renews, note_renews, new_note_renews}
 use Rattle.store_rule.specs.Ruled.{Form, Ruled, Seated, state_of}
 use Rattle.store_rule.specs.Told.{the_view, Stands}
@@ -26,7 +26,7 @@ use Rattle.store_rule.proofs.Seating.{only, reseated}
 
 -- In the core.
 
-module _ {X : Type 0} (g : Ground X) (s : State X) (so : Rule g s) (i : ℕ) (v : View X) (at : get_elem? s.views i ≡ some v) (pass : IsPass v) where
+module _ {X : Type 0} {says : Bool} (g : GroundOf says X) (s : State X) (so : Rule g s) (i : ℕ) (v : View X) (at : get_elem? s.views i ≡ some v) (pass : IsPass v) where
   pub noting_sound : Rule g (renewed s (set s.views i (noting v)))
   noting_sound = rule_renewed g s (set s.views i (noting v)) (pass_renews g.setting s so.sound i v (noting v) at pass (learns_goes v [] _ noted) (known_view g.setting s so.sound.anchors.seen i v at))
       (alone_learned (left_to g) g.setting s i v at (noting v) refl refl refl (λ slot. refl) so.alone) (halts_learned s i v at [] _ noted_nowhere so.halts) so
@@ -215,7 +215,7 @@ module _ {X : Type 0} (rows : List (List (View X))) (views : List (View X)) (se 
 
 -- On the table.
 
-module _ {C X : Type 0} (form : Form C X) (g : Ground X) where
+module _ {C X : Type 0} (form : Form C X) {says : Bool} (g : GroundOf says X) where
   pub note_splits : (id : ℕ) (row : List (View X)) → row ≡ the_view row ∷ [] → IsPass (the_view row) → Splits (Ruled form g) id row (noting_row row) (note_row row)
   note_splits id row one pass s r at = let v : View X = the_view row in let here : get_elem? s.views id ≡ some (v ∷ []) = at ∙ ap some one in let a = r.seated.index id 0 in
       let there = r.seated.at id 0 (v ∷ []) v here refl in record {
@@ -255,8 +255,8 @@ module _ {A : Type 0} where
   set_same (y ∷ ys) (suc i) x e = ap (λ (zs : List A). y ∷ zs) (set_same ys i x e)
 
 module _ {C X : Type 0} (form : Form C X) where
-  pub rest_granted : (g d : Ground X) (slots id i : ℕ) (me : Me (Option C) (List (View X))) → g ≡ d → me.0 ≡ the_view me.0 ∷ [] → Allows (Ruled form g) slots id me i (λ n. n) (λ n me'. (me' ≡ me) × Stands d (the_view me.0))
-  rest_granted g d slots id i me named one = subst (λ (z : Ground X). Allows (Ruled form g) slots id me i (λ n. n) (λ n me'. (me' ≡ me) × Stands z (the_view me.0))) named
+  pub rest_granted : {says : Bool} (g : GroundOf says X) (d : SomeGround X) (slots id i : ℕ) (me : Me (Option C) (List (View X))) → packed g ≡ d → me.0 ≡ the_view me.0 ∷ [] → Allows (Ruled form g) slots id me i (λ n. n) (λ n me'. (me' ≡ me) × Stands d.ground (the_view me.0))
+  rest_granted g d slots id i me named one = subst (λ (z : SomeGround X). Allows (Ruled form g) slots id me i (λ n. n) (λ n me'. (me' ≡ me) × Stands z.ground (the_view me.0))) named
       (λ s r deep at fits. let a = r.seated.index id 0 in let row : get_elem? s.views id ≡ some (the_view me.0 ∷ []) = at ∙ ap some one in (
         me.0,
         keeps,

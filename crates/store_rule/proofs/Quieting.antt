@@ -1,5 +1,5 @@
 -- Steps of a pass that count no reader, or doom nothing, add up.
-use Rattle.std.proofs.Common.{All, [], ap, ◌++◌, ◌∷◌, ◌≡◌, ◌≢◌, ◌∙◌, sym, ℕ}
+use Rattle.std.proofs.Common.{Bool, All, [], ap, ◌++◌, ◌∷◌, ◌≡◌, ◌≢◌, ◌∙◌, sym, ℕ}
 use Rattle.std.proofs.lemmas.List.{append_assoc}
 use Rattle.std.proofs.lemmas.List.Elements.{All-append, All-cons, All-nil}
 use Rattle.core_model.specs.Table.{item_of, kind_of}
@@ -9,7 +9,7 @@ use Rattle.core_model.specs.declared.view.Item.{Item}
 use Rattle.core_model.specs.declared.view.Kind.{Kind}
 use Rattle.core_model.specs.declared.view.Kind.TheVariants.{Doomed, Entered}
 use Rattle.core_model.specs.declared.view.View.{View}
-use Rattle.store_rule.specs.Ground.{Ground}
+use Rattle.store_rule.specs.Ground.{GroundOf}
 use Rattle.store_rule.specs.Told.{Steps}
 use Rattle.store_rule.specs.Quiet.{AddsNone, CountsNoReader, DoomsNothing, IsQuietMove, Quiet}
 use Rattle.store_rule.specs.Runs.{Added, Went}
@@ -31,7 +31,7 @@ module _ {X : Type 0} {kind : Kind} where
   }
 
   -- one step
-  pub none_step : {g : Ground X} {v w : View X} {m : Move} {n : ℕ} → Steps g v m n w → kind_of m ≢ kind → AddsNone kind v w
+  pub none_step : {says : Bool} {g : GroundOf says X} {v w : View X} {m : Move} {n : ℕ} → Steps g v m n w → kind_of m ≢ kind → AddsNone kind v w
   none_step {g} {v} {w} {m} {n} st other = record {
     items = item_of v m n ∷ [];
     trail = ap View.trail st.leaves;
@@ -49,10 +49,10 @@ no_doom (Doom t) quiet = absurd quiet
 no_doom m quiet = λ e. cc
 
 module _ {X : Type 0} where
-  pub entered_dooms_nothing : {g : Ground X} {v w : View X} {t a n : ℕ} → Steps g v (Enter t a) n w → DoomsNothing v w
+  pub entered_dooms_nothing : {says : Bool} {g : GroundOf says X} {v w : View X} {t a n : ℕ} → Steps g v (Enter t a) n w → DoomsNothing v w
   entered_dooms_nothing st = none_step st (λ e. cc)
 
-  pub doomed_counts_no_reader : {g : Ground X} {v w : View X} {t n : ℕ} → Steps g v (Doom t) n w → CountsNoReader v w
+  pub doomed_counts_no_reader : {says : Bool} {g : GroundOf says X} {v w : View X} {t n : ℕ} → Steps g v (Doom t) n w → CountsNoReader v w
   doomed_counts_no_reader st = none_step st (λ e. cc)
 
   pub quiet_same : (v w : View X) → w.trail ≡ v.trail → Quiet v w
@@ -61,11 +61,11 @@ module _ {X : Type 0} where
   pub quiet_then : {v u w : View X} → Quiet v u → Quiet u w → Quiet v w
   quiet_then first second = record { counts = none_then first.counts second.counts; dooms = none_then first.dooms second.dooms }
 
-  pub quiet_step : {g : Ground X} {v w : View X} {m : Move} {n : ℕ} → Steps g v m n w → IsQuietMove m → Quiet v w
+  pub quiet_step : {says : Bool} {g : GroundOf says X} {v w : View X} {m : Move} {n : ℕ} → Steps g v m n w → IsQuietMove m → Quiet v w
   quiet_step {g} {v} {w} {m} {n} st quiet = record { counts = none_step st (no_entering m quiet); dooms = none_step st (no_doom m quiet) }
 
   -- steps of which all items are known
-  pub quiet_went : {g : Ground X} {v w : View X} {d : Added} → Went g v d w → All (λ (x : Item). x.kind ≢ Entered) d.items → All (λ (x : Item). x.kind ≢ Doomed) d.items → Quiet v w
+  pub quiet_went : {says : Bool} {g : GroundOf says X} {v w : View X} {d : Added} → Went g v d w → All (λ (x : Item). x.kind ≢ Entered) d.items → All (λ (x : Item). x.kind ≢ Doomed) d.items → Quiet v w
   quiet_went {g} {v} {w} {d} went counts dooms = record {
     counts = record { items = d.items; trail = went.trail; none = counts };
     dooms = record { items = d.items; trail = went.trail; none = dooms };

@@ -12,7 +12,7 @@ use Rattle.core_model.proofs.Tabs.{tab_there}
 use Rattle.core_room.specs.Conditions.{KeepsRoom}
 use Rattle.core_room.specs.Fitting.{fits as fits_in}
 use Rattle.core_room.proofs.Passed.{no_search_passes}
-use Rattle.store_rule.specs.Ground.{Asks, Ground, capacity_of, fits, need_of}
+use Rattle.store_rule.specs.Ground.{Asks, GroundOf, capacity_of, fits, need_of}
 use Rattle.store_rule.specs.Told.{Stands}
 
 both_left : (b c : Bool) → (b && c) ≡ true → b ≡ true
@@ -23,7 +23,7 @@ both_right : (b c : Bool) → (b && c) ≡ true → c ≡ true
 both_right true c e = e
 both_right false c e = cc
 
-module _ {X : Type 0} (g : Ground X) where
+module _ {X : Type 0} {says : Bool} (g : GroundOf says X) where
   -- a store that fits has a slot
   pub fits_some : fits g ≡ true → 0 < g.setting.slots
   unfolding fits
@@ -43,7 +43,7 @@ module _ {X : Type 0} (g : Ground X) where
   asks_room v m e asks = tt
 
 -- A search that has found each slot taken shows that the store does not fit.
-pub search_unfit : {X : Type 0} → (g : Ground X) (v : View X) (t : ℕ) (w : Writer X) → Stands g v → IsPass v → t ≤ inner → tab_at v t ≡ Writing w → (0 < g.setting.slots → (p : ℕ) × (w.claim ≡ Some p) × (g.setting.slots ≤ p)) → fits g ≡ false
+pub search_unfit : {X : Type 0} → {says : Bool} (g : GroundOf says X) (v : View X) (t : ℕ) (w : Writer X) → Stands g v → IsPass v → t ≤ inner → tab_at v t ≡ Writing w → (0 < g.setting.slots → (p : ℕ) × (w.claim ≡ Some p) × (g.setting.slots ≤ p)) → fits g ≡ false
 search_unfit g v t w st pass le is past = by_case (fits g) refl
   where
     by_case : (b : Bool) → fits g ≡ b → fits g ≡ false

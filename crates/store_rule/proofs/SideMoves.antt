@@ -1,5 +1,5 @@
 -- Loads and stores of the words beside an anchor are steps of the core.
-use Rattle.std.proofs.Common.{◌+◌, ◌*◌, ◌≡◌, ◌∷◌, List, Option, [], arith, false, inl, inr, refl, true, ℕ}
+use Rattle.std.proofs.Common.{Bool, ◌+◌, ◌*◌, ◌≡◌, ◌∷◌, List, Option, [], arith, false, inl, inr, refl, true, ℕ}
 use Rattle.atomic_table.specs.Seated.{TableId}
 use Rattle.atomic_table.specs.declared.shared.Seat.{Seat}
 use Rattle.core_model.specs.declared.moves.Move.TheVariants.{LoadSide, StoreSide}
@@ -10,7 +10,7 @@ use Rattle.core_model.specs.declared.view.View.{View}
 use Rattle.core_model.specs.Layout.{side_index, word_count}
 use Rattle.core_model.specs.Tabs.{anchor_of, is_free, is_using, tab_at}
 use Rattle.core_model.specs.AllowedByView.{MayMake}
-use Rattle.store_rule.specs.Ground.{Ground}
+use Rattle.store_rule.specs.Ground.{GroundOf}
 use Rattle.store_rule.specs.Ruled.{Form}
 use Rattle.store_rule.specs.Told.{Stands, the_view}
 use Rattle.store_rule.specs.Machine.{StepsOn}
@@ -29,7 +29,7 @@ module _ {X : Type 0} where
   used_tab (Tab.Last a) h = refl
   used_tab (Tab.Freeing f) h = refl
 
-module _ {C X : Type 0} (form : Form C X) (g : Ground X) (z : TableId) (seat : Seat (Option C) (List (View X))) (own : seat.table_id ≡ z) (sized : z.words ≡ word_count g.setting) (one : seat.me.0 ≡ the_view seat.me.0 ∷ []) where
+module _ {C X : Type 0} (form : Form C X) {says : Bool} (g : GroundOf says X) (z : TableId) (seat : Seat (Option C) (List (View X))) (own : seat.table_id ≡ z) (sized : z.words ≡ word_count g.setting) (one : seat.me.0 ≡ the_view seat.me.0 ∷ []) where
   abbrev v : View X
   v = the_view seat.me.0
 

@@ -44,7 +44,7 @@ use Rattle.core_model.proofs.Tabs.{tab_there}
 use Rattle.core_wiped.proofs.Filled.{freed_some}
 use Rattle.store_rule.specs.declared.store.Pass.{Pass}
 use Rattle.store_rule.specs.declared.store.Store.{Store}
-use Rattle.store_rule.specs.Ground.{Can, Ground, Offers, Rule}
+use Rattle.store_rule.specs.Ground.{Can, GroundOf, OffersOf, Rule}
 use Rattle.store_rule.specs.Machine.{Acts, CanAct, StepsOn}
 use Rattle.store_rule.specs.Ruled.{Form, HomesFit, IsFitting, cell_shown, place_shown, state_of}
 use Rattle.store_rule.specs.Setting.{shown}
@@ -68,7 +68,7 @@ some_same x y e = ap (λ (o : Option _). unwrap_or o x) e
 
 -- The slot of a turn is one of the store's.
 
-module _ {X : Type 0} (g : Ground X) (v : View X) (st : Stands g v) where
+module _ {X : Type 0} {says : Bool} (g : GroundOf says X) (v : View X) (st : Stands g v) where
   pub tried_inside : (t slot : ℕ) → MayMake g.setting v (TryTurn t slot) → slot < g.setting.slots
   tried_inside t slot may = try_inside g.setting st.state st.index v st.rule.sound st.at may.pass t slot
       (allowed_so g.setting st.state st.index v st.rule.sound st.at may.pass (TryTurn t slot) may.allowed)
@@ -104,7 +104,7 @@ module _ {C X : Type 0} (form : Form C X) where
   lies (some y ∷ hs) zero = (y, refl, λ x e. refl)
   lies (h ∷ hs) (suc j) = lies hs j
 
-  module _ (g : Ground X) (u : View X) (had : List (ℕ × Option C)) (t slot : ℕ) where
+  module _ {says : Bool} (g : GroundOf says X) (u : View X) (had : List (ℕ × Option C)) (t slot : ℕ) where
     -- a place from which the cell is taken has none
     taken_fits : (homes : List (maybe.Option (Option C))) → HomesFit form g homes → HomesFit form g (set homes slot none)
     taken_fits homes fits j c e = ⊎_elim
@@ -169,14 +169,14 @@ module _ {C X : Type 0} (form : Form C X) where
     )
 
   -- the view that v has become, from which the tab may end its turn with this cell
-  pub record EndsFrom (g : Ground X) (v : View X) (t slot : ℕ) (then : Then) (c : C) (u : View X) : Type 0 where
+  pub record EndsFrom {says : Bool} (g : GroundOf says X) (v : View X) (t slot : ℕ) (then : Then) (c : C) (u : View X) : Type 0 where
     pub becomes : Becomes g.setting v u
     pub may : MayMake g.setting u (EndTurn t slot then)
     pub hold : Hold X
     pub turn : turn_of (tab_at u t) ≡ Has hold
     pub cell_is : form.shows c ≡ hold.cell
 
-  module _ (g : Ground X) (z : TableId) (seat : Seat (Option C) (List (View X))) (own : seat.table_id ≡ z) (sized : z.words ≡ word_count g.setting) (one : seat.me.0 ≡ the_view seat.me.0 ∷ []) where
+  module _ {says : Bool} (g : GroundOf says X) (z : TableId) (seat : Seat (Option C) (List (View X))) (own : seat.table_id ≡ z) (sized : z.words ≡ word_count g.setting) (one : seat.me.0 ≡ the_view seat.me.0 ∷ []) where
     abbrev v : View X
     v = the_view seat.me.0
 
@@ -247,7 +247,7 @@ module _ {X : Type 0} where
   none_some : (x : Cell X) → None ≡ Some x → ⊥
   none_some x z = cc
 
-module _ {C X : Type 0} (form : Form C X) (g : Ground X) (me me' : Me (Option C) (List (View X))) (n t slot : ℕ) (told : Told form g (TryTurn t slot) (the_view me.0) me n me') (lt : slot < g.setting.slots)
+module _ {C X : Type 0} (form : Form C X) {says : Bool} (g : GroundOf says X) (me me' : Me (Option C) (List (View X))) (n t slot : ℕ) (told : Told form g (TryTurn t slot) (the_view me.0) me n me') (lt : slot < g.setting.slots)
     (may : MayMake g.setting (the_view me.0) (TryTurn t slot)) where
   abbrev before : View X
   before = the_view me.0
@@ -276,19 +276,19 @@ module _ {C X : Type 0} (form : Form C X) (g : Ground X) (me me' : Me (Option C)
   turn_stays taken = told.out ∙ (rw taken refl)
 
 -- What is at hand of the tabs stays.
-pub tried_hand : {X : Type 0} → (g : Ground X) (v w : View X) (t slot n : ℕ) (hand : List At) → hand ≡ tabs_at v → Steps g v (TryTurn t slot) n w → hand ≡ tabs_at w
+pub tried_hand : {X : Type 0} → {says : Bool} (g : GroundOf says X) (v w : View X) (t slot n : ℕ) (hand : List At) → hand ≡ tabs_at v → Steps g v (TryTurn t slot) n w → hand ≡ tabs_at w
 tried_hand g v w t slot n hand is st = same_hand v w t _ hand (ap View.tabs st.leaves) (tries_at (tab_at v t) slot n _) is
 
 pub turn_missed : (n : ℕ) (won : Bool) → won ≡ (n == 0) → won ≡ false → n ≢ 0
 turn_missed n won is lost e = true≢false (sym (eq-eqb n 0 e) ∙ sym is ∙ lost)
 
-pub as_won : {C O : Type 0} → (tells : Bool) (state : C → CellState) (offers : O → Offers) (s : Store C O) (p : Pass C) (t slot : ℕ) (won : Bool) (q : Pass C) → won ≡ true → TurnFound tells state offers s p t slot won q
+pub as_won : {C O : Type 0} → (tells : Bool) (state : C → CellState) {says : Bool} (offers : O → OffersOf says) (s : Store C O) (p : Pass C) (t slot : ℕ) (won : Bool) (q : Pass C) → won ≡ true → TurnFound tells state offers s p t slot won q
     → TurnFound tells state offers s p t slot true q
 as_won tells state offers s p t slot won q is found = subst (λ (b : Bool). TurnFound tells state offers s p t slot b q) is found
 
 -- A try that found the turn taken leaves the tab, which may try again.
 
-module _ {X : Type 0} (g : Ground X) (v w : View X) (t slot n : ℕ) (st : Steps g v (TryTurn t slot) n w) (taken : n ≢ 0) where
+module _ {X : Type 0} {says : Bool} (g : GroundOf says X) (v w : View X) (t slot n : ℕ) (st : Steps g v (TryTurn t slot) n w) (taken : n ≢ 0) where
   same_tries : (x : Tab X) (cell : Option (Cell X)) → (OfWriter (λ y. Unit {0}) x → n ≡ 0) → tries_tab x slot n cell ≡ x
   same_tries (Reading r) cell writes = let miss = ne_eqb n 0 taken in rw miss refl
   same_tries (Writing y) cell writes = absurd (taken (writes tt))
@@ -312,22 +312,22 @@ module _ {X : Type 0} (g : Ground X) (v w : View X) (t slot n : ℕ) (st : Steps
   }
 
 -- A tab that frees a doomed entry, of which no slot has left the chain, has a slot to wipe.
-pub wiper_has_slot : {X : Type 0} → (g : Ground X) (s : State X) (rule : Rule g s) (i t : ℕ) (f : Freer X) → IsTab s i t (Freeing f) → f.is_freeing ≡ true → f.is_whole ≡ true → f.is_doomed ≡ true → f.rest ≢ []
+pub wiper_has_slot : {X : Type 0} → {says : Bool} (g : GroundOf says X) (s : State X) (rule : Rule g s) (i t : ℕ) (f : Freer X) → IsTab s i t (Freeing f) → f.is_freeing ≡ true → f.is_whole ≡ true → f.is_doomed ≡ true → f.rest ≢ []
 wiper_has_slot g s rule i t f tab freeing whole doom = freed_some g.setting s i t f rule.sound (rule.wiped rule.logged.log rule.logged.stands.of).filled tab freeing whole doom
 
 -- A tab that writes always wins.
-pub writer_wins : {X : Type 0} → (g : Ground X) (v w : View X) (t slot n : ℕ) → Steps g v (TryTurn t slot) n w → OfWriter (λ w. Unit {0}) (tab_at v t) → n ≡ 0
+pub writer_wins : {X : Type 0} → {says : Bool} (g : GroundOf says X) (v w : View X) (t slot n : ℕ) → Steps g v (TryTurn t slot) n w → OfWriter (λ w. Unit {0}) (tab_at v t) → n ≡ 0
 writer_wins g v w t slot n st writes = (known_of g v (TryTurn t slot) n w st).turns.1 writes
 
 -- So does one that frees.
-pub freer_wins : {X : Type 0} → (g : Ground X) (v w : View X) (t slot n : ℕ) → Steps g v (TryTurn t slot) n w → OfFreer (λ f. Unit {0}) (tab_at v t) → n ≡ 0
+pub freer_wins : {X : Type 0} → {says : Bool} (g : GroundOf says X) (v w : View X) (t slot n : ℕ) → Steps g v (TryTurn t slot) n w → OfFreer (λ f. Unit {0}) (tab_at v t) → n ≡ 0
 freer_wins g v w t slot n st frees = (known_of g v (TryTurn t slot) n w st).turns.3 frees
 
-pub turn_taken_is : {X : Type 0} → (g : Ground X) (v w : View X) (t slot n : ℕ) (then : Then) → Steps g v (EndTurn t slot then) n w → n ≡ 1
+pub turn_taken_is : {X : Type 0} → {says : Bool} (g : GroundOf says X) (v w : View X) (t slot n : ℕ) (then : Then) → Steps g v (EndTurn t slot then) n w → n ≡ 1
 turn_taken_is g v w t slot n then st = (known_of g v (EndTurn t slot then) n w st).turns
 
 -- the end of a turn, made from the view that is this one
-pub ended_from : {X : Type 0} → (g : Ground X) (v u w : View X) (t slot n : ℕ) (then : Then) → v ≡ u → Steps g v (EndTurn t slot then) n w → Steps g u (EndTurn t slot then) 1 w
+pub ended_from : {X : Type 0} → {says : Bool} (g : GroundOf says X) (v u w : View X) (t slot n : ℕ) (then : Then) → v ≡ u → Steps g v (EndTurn t slot then) n w → Steps g u (EndTurn t slot then) 1 w
 ended_from g v u w t slot n then same st = subst (λ (z : View _ × ℕ). Steps g z.0 (EndTurn t slot then) z.1 w) (λ i. (same i, turn_taken_is g v w t slot n then st i)) st
 
 -- The view from which a turn ends, by the cell in the place that was taken last.
@@ -387,7 +387,7 @@ module _ (k : Setting (List ℕ)) where
   returned_hand (Last a) t slot c v hand e is = is
   returned_hand (Freeing f) t slot c v hand e is = same_hand v (with_wiper v t f (new_hold slot c)) t _ hand refl (ap at_of (sym e)) is
 
-  pub ended_hand : (g : Ground (List ℕ)) (v w : View (List ℕ)) (t slot n : ℕ) (then : Then) (c : Cell (List ℕ)) (u : View (List ℕ)) (y : At) (old new : List At) → u ≡ returned_by (tab_at v t) t slot c v
+  pub ended_hand : {says : Bool} (g : GroundOf says (List ℕ)) (v w : View (List ℕ)) (t slot n : ℕ) (then : Then) (c : Cell (List ℕ)) (u : View (List ℕ)) (y : At) (old new : List At) → u ≡ returned_by (tab_at v t) t slot c v
       → old ≡ tabs_at v → y ≡ ended_here (at_of (tab_at v t)) then → new ≡ set old t y → Steps g u (EndTurn t slot then) n w → new ≡ tabs_at w
   ended_hand g v w t slot n then c u y old new u_is is y_is made st =
       let same : tabs_at v ≡ tabs_at u = returned_hand (tab_at v t) t slot c v (tabs_at v) refl refl ∙ ap tabs_at (sym u_is) in
@@ -412,7 +412,7 @@ pub now_stays : {C : Type 0} → (tells : Bool) (state : C → CellState) (c : C
 now_stays true state c h = h refl
 now_stays false state c h = (0, omega arith, refl)
 
-module _ {C : Type 0} (tells : Bool) (form : Form C (List ℕ)) (g : Ground (List ℕ)) (v : View (List ℕ)) (t slot : ℕ) (then : Then) (c : C) (h : Hold (List ℕ)) (slot_is : h.slot ≡ slot)
+module _ {C : Type 0} (tells : Bool) (form : Form C (List ℕ)) {says : Bool} (g : GroundOf says (List ℕ)) (v : View (List ℕ)) (t slot : ℕ) (then : Then) (c : C) (h : Hold (List ℕ)) (slot_is : h.slot ≡ slot)
     (stays : Contains (form.shows c).possible (form.shows c).now) (may : MayMake g.setting v (EndTurn t slot Stays)) where
   abbrev k : Setting (List ℕ)
   k = g.setting

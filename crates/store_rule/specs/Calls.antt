@@ -7,7 +7,7 @@ use Rattle.core_model.specs.Tabs.{inner, tab_at}
 use Rattle.core_model.specs.Trails.{seen_at}
 use Rattle.store_rule.specs.declared.store.Pass.{Pass}
 use Rattle.store_rule.specs.declared.store.Store.{Store}
-use Rattle.store_rule.specs.Ground.{Offers}
+use Rattle.store_rule.specs.Ground.{OffersOf}
 use Rattle.store_rule.specs.Passes.{IsOf, hand, view}
 
 -- every tab but t and the inner one is as it was
@@ -19,7 +19,7 @@ pub record IsFresh {X : Type 0} (a epoch : ℕ) (v w : View X) : Type 0 where
   pub above : seen_at a v.seen ≤ epoch
   pub seen : Contains w.seen (Stood a epoch)
 
-module _ {C O : Type 0} (tells : Bool) (state : C → CellState) (offers : O → Offers) where
+module _ {C O : Type 0} (tells : Bool) (state : C → CellState) {says : Bool} (offers : O → OffersOf says) where
   -- The pass is of the store still. Every tab but t and the inner one is as it was, with the word that it left; all buffers and the
   -- place where the next search for an entry to evict begins are.
   pub record Follows (s : Store C O) (t : ℕ) (p q : Pass C) : Type 0 where

@@ -8,12 +8,12 @@ use Rattle.core_model.specs.Holders.{AllFree}
 use Rattle.core_model.specs.State.{State}
 use Rattle.core_model.specs.Tabs.{is_free, tab_at}
 use Rattle.store_rule.specs.declared.store.Pass.{Pass}
-use Rattle.store_rule.specs.Ground.{Ground, Rule}
+use Rattle.store_rule.specs.Ground.{GroundOf, Rule}
 use Rattle.store_rule.specs.Passes.{hand, view}
 use Rattle.store_rule.specs.Setting.{IsRow, shown}
 
 -- In one state that keeps the rule these views stand, each whole, and no two are the same one.
-pub record Gathered {X : Type 0} (g : Ground X) (views : List (View X)) : Type 0 where
+pub record Gathered {X : Type 0} {says : Bool} (g : GroundOf says X) (views : List (View X)) : Type 0 where
   pub state : State X
   pub rule : Rule g state
   pub index : ℕ → ℕ
@@ -35,7 +35,7 @@ pub record IsResting {C : Type 0} (p : Pass C) : Type 0 where
 
 -- The store ended in one state that keeps the rule. The views of all passes stand in it, each whole. All tabs are free, and no other view
 -- has one. These cells are those of the slots, in order, and each is at home in its place.
-pub record Closed {C : Type 0} (tells : Bool) (cell : C → CellState) (g : Ground (List ℕ)) (views : List (View (List ℕ))) (cells : List C) : Type 0 where
+pub record Closed {C : Type 0} (tells : Bool) (cell : C → CellState) {says : Bool} (g : GroundOf says (List ℕ)) (views : List (View (List ℕ))) (cells : List C) : Type 0 where
   pub gathered : Gathered g views
   pub others : (i : ℕ) (v : View (List ℕ)) → get_elem? gathered.state.views i ≡ some v → ((j : ℕ) × (j < length views) × (gathered.index j ≡ i)) ⊎ (v.tabs ≡ [])
   pub free : AllFree gathered.state
@@ -44,7 +44,7 @@ pub record Closed {C : Type 0} (tells : Bool) (cell : C → CellState) (g : Grou
   pub row : IsRow cell g.slot cells
 
 -- The store ended so, and its table is shared no more: these are its words, and its places have these cells.
-pub record IsEnded {C : Type 0} (tells : Bool) (cell : C → CellState) (g : Ground (List ℕ)) (views : List (View (List ℕ)))
+pub record IsEnded {C : Type 0} (tells : Bool) (cell : C → CellState) {says : Bool} (g : GroundOf says (List ℕ)) (views : List (View (List ℕ)))
     (words : List ℕ) (places : List (Option C)) : Type 0 where
   pub cells : List C
   pub closed : Closed tells cell g views cells

@@ -1,5 +1,5 @@
 -- What a step call owes: that the operation of the machine is the step of the core.
-use Rattle.std.specs.Prelude.{Option, List, [], ◌∷◌, ◌<◌, ◌≡◌, map, slice_set, ℕ}
+use Rattle.std.specs.Prelude.{Bool, Option, List, [], ◌∷◌, ◌<◌, ◌≡◌, map, slice_set, ℕ}
 use mathlib.Core.Option.{some}
 use lib.ListN.{get_elem?}
 use Rattle.atomic_table.specs.Seated.{TableId}
@@ -15,7 +15,7 @@ use Rattle.core_model.specs.Table.{left_by}
 use Rattle.core_model.specs.Tabs.{IsPass}
 use Rattle.core_model.specs.Steps.{after, cell_found, chains_after, finding, number_found, places_after, view_after}
 use Rattle.core_model.specs.AllowedByView.{MayMake}
-use Rattle.store_rule.specs.Ground.{Asks, Ground, Rule}
+use Rattle.store_rule.specs.Ground.{Asks, GroundOf, Rule}
 use Rattle.store_rule.specs.Ruled.{Form, HomesFit, cell_shown, place_shown, state_of}
 use Rattle.store_rule.specs.Told.{Becomes, CellFits, Told, out_after, the_view}
 
@@ -30,11 +30,11 @@ pub record OnWord {X : Type 0} (k : Setting X) (v : View X) (m : Move) (p : Plac
   }
 
 -- in a state that keeps the rule f is what the step makes of its word
-abbrev pub Same : {X : Type 0} → Ground X → View X → Move → Place → (ℕ → ℕ) → Type 0
+abbrev pub Same : {X : Type 0} {says : Bool} → GroundOf says X → View X → Move → Place → (ℕ → ℕ) → Type 0
 Same {X} g v m p f = (s : State X) (i : ℕ) → Rule g s → get_elem? s.views i ≡ some v → MayMake g.setting v m → word_in g.setting s.words p < 18446744073709551616
     → f (word_in g.setting s.words p) ≡ left_by v m (word_in g.setting s.words p)
 
-module _ {C X : Type 0} (form : Form C X) (g : Ground X) where
+module _ {C X : Type 0} (form : Form C X) {says : Bool} (g : GroundOf says X) where
   -- the act moves the places as the step moves the cells, and finds this in the place
   pub record Acts (s : Table (Option C) (List (View X))) (state : State X) (u : View X) (had : List (ℕ × Option C)) (m : Move) (n : ℕ) (a : Act (Option C)) (y : Option C) : Type 0 where
     pub valid : Valid s.homes had a

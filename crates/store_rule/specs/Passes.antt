@@ -17,7 +17,7 @@ use Rattle.tab_states.specs.declared.desks.Desk.{Desk}
 use Rattle.tab_states.specs.Desks.{page_at}
 use Rattle.store_rule.specs.declared.store.Note.{Note}
 use Rattle.core_model.specs.declared.view.Sight.{Sight}
-use Rattle.store_rule.specs.Ground.{Can, Ground, Offers}
+use Rattle.store_rule.specs.Ground.{Can, GroundOf, OffersOf, is_said}
 use Rattle.store_rule.specs.Setting.{basis_of}
 use Rattle.store_rule.specs.Told.{Steps, Stands, the_view}
 
@@ -82,8 +82,8 @@ left_after words (Leave t) told = slice_set words t told
 left_after words (Raise t to) told = slice_set words t told
 left_after words m told = words
 
-module _ {C O : Type 0} (tells : Bool) (state : C → CellState) (offers : O → Offers) where
-  abbrev pub basis : Store C O → Ground (List ℕ)
+module _ {C O : Type 0} (tells : Bool) (state : C → CellState) {says : Bool} (offers : O → OffersOf says) where
+  abbrev pub basis : Store C O → GroundOf (is_said says tells) (List ℕ)
   basis s = basis_of tells state offers s.table.shared.key
 
   -- The pass is of this store, its view is one of a state that keeps the rule, and its buffers are as long as a slot.

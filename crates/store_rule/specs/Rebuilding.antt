@@ -11,7 +11,7 @@ use Rattle.core_model.specs.Layout.{Setting}
 use Rattle.core_model.specs.Opening.{IsOpened, new_views}
 use Rattle.core_model.specs.State.{State}
 use Rattle.core_table.specs.Kept.{opened_chains}
-use Rattle.store_rule.specs.Ground.{Ground, Rule}
+use Rattle.store_rule.specs.Ground.{GroundOf, Rule}
 
 -- the slots of the entry that was kept at an anchor, none where none was
 abbrev pub chain_kept : List Found → (anchors : ℕ) → ℕ → List ℕ
@@ -49,12 +49,12 @@ abbrev pub opened_state : {X : Type 0} → Setting X → List Found → State X
 opened_state k kept = record { words = k.words; places = map at_home k.contents; views = new_views k 0 k.passes; chains = opened_chains kept k.anchors }
 
 -- the rule holds at the opening, where these entries were kept
-abbrev pub MayOpen : {X : Type 0} → Ground X → List Found → Type 0
+abbrev pub MayOpen : {X : Type 0} {says : Bool} → GroundOf says X → List Found → Type 0
 MayOpen g kept = Rule g (opened_state g.setting kept)
 
 -- A store was opened with what a rebuild kept. Each entry that was kept stands closed with its version, and any other anchor is empty; the
 -- slots of what was kept have owners and are linked, any other slot is free; the counter is at the greatest version. The rule holds.
-pub record IsOpenedWith {X : Type 0} (g : Ground X) (r : Rebuilt) : Type 0 where
+pub record IsOpenedWith {X : Type 0} {says : Bool} (g : GroundOf says X) (r : Rebuilt) : Type 0 where
   pub opened : IsOpened g.setting r (opened_state g.setting r.winners)
   pub rule : MayOpen g r.winners
   pub chain : g.chain ≡ chain_kept r.winners g.setting.anchors

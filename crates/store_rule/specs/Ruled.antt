@@ -1,7 +1,7 @@
 -- The rule of the table: with the views that the seats have, and with chains that no word spells, it is a state of the core that keeps
 -- the rule, and each cell that is at home is the one of its place.
 -- A seat has a row of views of the core: a pass has one, a note one, and the first seat has those of all passes until they are cut off.
-use Rattle.std.specs.Prelude.{None, Option, Some, List, map, ◌≡◌, ℕ}
+use Rattle.std.specs.Prelude.{Bool, None, Option, Some, List, map, ◌≡◌, ℕ}
 use mathlib.Core.Option.{some, none}
 use mathlib.Core.Option as maybe
 use lib.ListN.{get_elem?}
@@ -10,7 +10,7 @@ use Rattle.core_model.specs.declared.tab.Cell.{Cell}
 use Rattle.core_model.specs.declared.view.View.{View}
 use Rattle.core_model.specs.declared.chain.Chain.{Chain}
 use Rattle.core_model.specs.State.{State}
-use Rattle.store_rule.specs.Ground.{Ground, Rule}
+use Rattle.store_rule.specs.Ground.{GroundOf, Rule}
 
 -- what the core sees of a cell, and its number and width, which no step changes
 pub record Form (C X : Type 0) : Type 0 where
@@ -38,13 +38,13 @@ module _ {C X : Type 0} (form : Form C X) where
   state_of s views chains = record { words = s.words; places = map place_shown s.homes; views = views; chains = chains }
 
   -- the cell of the slot j has its number, and is as wide as a slot
-  abbrev pub IsFitting : Ground X → ℕ → C → Type 0
+  abbrev pub IsFitting : {says : Bool} → GroundOf says X → ℕ → C → Type 0
   IsFitting g j c = form.shape c ≡ (j, g.slot)
 
-  abbrev pub HomesFit : Ground X → List (maybe.Option (Option C)) → Type 0
+  abbrev pub HomesFit : {says : Bool} → GroundOf says X → List (maybe.Option (Option C)) → Type 0
   HomesFit g homes = (j : ℕ) (c : C) → get_elem? homes j ≡ some (some (Some c)) → IsFitting g j c
 
-  pub record Ruled (g : Ground X) (s : Table (Option C) (List (View X))) : Type 0 where
+  pub record Ruled {says : Bool} (g : GroundOf says X) (s : Table (Option C) (List (View X))) : Type 0 where
     pub views : List (View X)
     pub chains : List Chain
     pub seated : Seated s.views views

@@ -9,7 +9,7 @@ use Rattle.entry_cut.specs.Content.{image}
 use Rattle.core_model.specs.declared.tab.Cell.{Cell}
 use Rattle.core_model.specs.declared.tab.Piece.{Piece}
 use Rattle.store_rule.specs.declared.rule.About.{About}
-use Rattle.store_rule.specs.Ground.{Ground, Offers}
+use Rattle.store_rule.specs.Ground.{GroundOf, OffersOf, is_said, offers_over}
 use Rattle.store_rule.specs.Rebuilding.{chain_kept}
 use Rattle.store_rule.specs.Ruled.{Form}
 
@@ -40,7 +40,7 @@ next_number (Next slot) = pos slot
 next_number _ = negsuc 0
 
 -- the image of a piece of the offer that is so many numbers above the slots
-abbrev pub image_in : Bool → Offers → (slots slot : ℕ) → Piece → List ℕ
+abbrev pub image_in : {says : Bool} → Bool → OffersOf says → (slots slot : ℕ) → Piece → List ℕ
 image_in true offers slots slot p = image record {
   slot = slot;
   url = offers.url (p.offer - slots);
@@ -55,8 +55,8 @@ abbrev pub blank_in : Bool → (slot : ℕ) → List ℕ
 blank_in true slot = replicate slot 0
 blank_in false slot = []
 
-module _ {C O : Type 0} (tells : Bool) (state : C → CellState) (offers : O → Offers) where
-  abbrev pub basis_of : About C O → Ground (List ℕ)
+module _ {C O : Type 0} (tells : Bool) (state : C → CellState) {says : Bool} (offers : O → OffersOf says) where
+  abbrev pub basis_of : About C O → GroundOf (is_said says tells) (List ℕ)
   basis_of about = record {
     setting = record {
       anchors = about.anchors;
@@ -69,16 +69,16 @@ module _ {C O : Type 0} (tells : Bool) (state : C → CellState) (offers : O →
     };
     chain = chain_kept about.kept.value about.anchors;
     slot = about.slot;
-    offers = offers about.origin.value;
+    offers = offers_over tells (offers about.origin.value);
   }
 
 abbrev pub form_of : {C : Type 0} → Bool → (C → CellState) → Form C (List ℕ)
 form_of tells state = record { shows = shown tells state; shape = λ c. shape (state c) }
 
-abbrev pub no_ground : Ground (List ℕ)
+abbrev pub no_ground : GroundOf false (List ℕ)
 no_ground = record {
   setting = record { anchors = 0; slots = 0; passes = 0; words = []; contents = []; image = λ p. []; blank = [] };
   chain = λ a. [];
   slot = 0;
-  offers = record { url = λ n. []; body = λ n. []; alone = λ anchors a. None; need = λ anchors slot a. 4096; told = true };
+  offers = record { url = λ n. []; body = λ n. []; alone = λ anchors a. None; need = λ anchors slot a. 4096 };
 }

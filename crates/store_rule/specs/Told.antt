@@ -1,5 +1,5 @@
 -- What a step tells: it was one of the core's, made in a state that keeps the rule.
-use Rattle.std.specs.Prelude.{Option, Some, List, [], ◌∷◌, ◌==◌, ◌≡◌, ◌⊎◌, cond, ℕ}
+use Rattle.std.specs.Prelude.{Bool, Option, Some, List, [], ◌∷◌, ◌==◌, ◌≡◌, ◌⊎◌, cond, ℕ}
 use mathlib.Core.Option.{some}
 use lib.ListN.{get_elem?}
 use Rattle.atomic_table.specs.Table.{Me, Step, rest}
@@ -15,7 +15,7 @@ use Rattle.core_model.specs.CellMoves.{spent}
 use Rattle.core_model.specs.Table.{MayStep}
 use Rattle.core_model.specs.Steps.{cell_found, chain_found, number_found, sights_found, view_after}
 use Rattle.core_model.specs.TableForms.{MayBlank, MayRewrite, with_hold, with_wiper}
-use Rattle.store_rule.specs.Ground.{Ground, Rule}
+use Rattle.store_rule.specs.Ground.{GroundOf, Rule}
 use Rattle.store_rule.specs.Ruled.{Form, IsFitting, cell_shown}
 
 -- what the step finds in the state s, where the number is n
@@ -23,7 +23,7 @@ abbrev pub found_as : {X : Type 0} → Setting X → State X → View X → Move
 found_as k s v m n = record { word = n; cell = cell_found k s v m; chain = chain_found s m; sights = sights_found k s v m }
 
 -- In some state that keeps the rule the pass had the view v and made the step m, which found n and left the view w.
-pub record Steps {X : Type 0} (g : Ground X) (v : View X) (m : Move) (n : ℕ) (w : View X) : Type 0 where
+pub record Steps {X : Type 0} {says : Bool} (g : GroundOf says X) (v : View X) (m : Move) (n : ℕ) (w : View X) : Type 0 where
   pub state : State X
   pub index : ℕ
   pub rule : Rule g state
@@ -33,7 +33,7 @@ pub record Steps {X : Type 0} (g : Ground X) (v : View X) (m : Move) (n : ℕ) (
   pub leaves : w ≡ view_after v m (found_as g.setting state v m n)
 
 -- In some state that keeps the rule a pass has this view.
-pub record Stands {X : Type 0} (g : Ground X) (v : View X) : Type 0 where
+pub record Stands {X : Type 0} {says : Bool} (g : GroundOf says X) (v : View X) : Type 0 where
   pub state : State X
   pub index : ℕ
   pub rule : Rule g state
@@ -72,7 +72,7 @@ out_after out (TryTurn t slot) n y = cond (n == 0) ((slot, y) ∷ out) out
 out_after out (EndTurn t slot then) n y = rest out
 out_after out _ n y = out
 
-module _ {C X : Type 0} (form : Form C X) (g : Ground X) where
+module _ {C X : Type 0} (form : Form C X) {says : Bool} (g : GroundOf says X) where
   -- a cell that comes with a turn is the one of its slot
   abbrev pub CellFits : Move → Option C → Type 0
   CellFits (TryTurn t slot) y = (c : C) → y ≡ Some c → IsFitting form g slot c
@@ -92,5 +92,5 @@ module _ {C X : Type 0} (form : Form C X) (g : Ground X) where
   does m u step = Told m u
 
 -- nothing came of it
-abbrev pub rests : {C X : Type 0} → Ground X → Step (Option C) → Me (Option C) (List (View X)) → ℕ → Me (Option C) (List (View X)) → Type 0
+abbrev pub rests : {C X : Type 0} {says : Bool} → GroundOf says X → Step (Option C) → Me (Option C) (List (View X)) → ℕ → Me (Option C) (List (View X)) → Type 0
 rests g step me n me' = (me' ≡ me) × Stands g (the_view me.0)

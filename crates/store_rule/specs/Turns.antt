@@ -18,7 +18,7 @@ use Rattle.core_model.specs.declared.tab.Writer.{Writer}
 use Rattle.core_model.specs.declared.view.View.{View}
 use Rattle.store_rule.specs.declared.store.Pass.{Pass}
 use Rattle.store_rule.specs.declared.store.Store.{Store}
-use Rattle.store_rule.specs.Ground.{Ground, Offers}
+use Rattle.store_rule.specs.Ground.{GroundOf, OffersOf}
 use Rattle.store_rule.specs.Passes.{HasCell, IsOf, Keeps, Made, basis, hand, view}
 use Rattle.store_rule.specs.Ruled.{IsFitting}
 use Rattle.store_rule.specs.Setting.{form_of, shown}
@@ -61,11 +61,11 @@ EndsWith k then tab c = Unit {0}
 
 -- Tries for a turn that each found it taken, one behind the other, between the views v and w. The views that they were made from stand
 -- newest first, so the last is v.
-abbrev pub Lost : {X : Type 0} → Ground X → (t slot : ℕ) → View X → List (View X) → View X → Type 0
+abbrev pub Lost : {X : Type 0} {says : Bool} → GroundOf says X → (t slot : ℕ) → View X → List (View X) → View X → Type 0
 Lost g t slot v [] w = w ≡ v
 Lost g t slot v (u ∷ us) w = (n : ℕ) × Steps g u (TryTurn t slot) n w × (n ≢ 0) × Lost g t slot v us u
 
-module _ {C O : Type 0} (tells : Bool) (state : C → CellState) (offers : O → Offers) where
+module _ {C O : Type 0} (tells : Bool) (state : C → CellState) {says : Bool} (offers : O → OffersOf says) where
   -- the tab has the turn, and the pass has the cell in the place that it took last
   pub record HasTaken (s : Store C O) (p : Pass C) (t slot : ℕ) (q : Pass C) : Type 0 where
     pub cell : C

@@ -1,5 +1,5 @@
 // The end of a store: all passes are joined again, and its table is shared no more.
-use crate::rule::{Joined, Origin};
+use crate::rule::{Joined, AnyOrigin};
 use crate::store::{Pass, Store};
 use atomic_table::{Closed, Seat};
 use core_model::{Row, View};
@@ -7,7 +7,7 @@ use rock_disk::Cell;
 use rock_io::Octets;
 use std::alloc::Global;
 
-impl<C: Cell, O: Origin> Store<C, O> {
+impl<C: Cell, O: AnyOrigin> Store<C, O> {
     ghost use Rattle.std.specs.Prelude.{◌<◌, ◌≡◌, ◌≤◌, ◌++◌, All, [], length, vec_capacity, vec_len};
     ghost use Rattle.std.specs.Mem.Slots.{IsFull, slots_items, slots_len};
     ghost use Rattle.store_rule.specs.Closing.{IsEnded, IsResting, views_of};

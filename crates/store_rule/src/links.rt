@@ -1,5 +1,5 @@
 // The step calls on the links of slots.
-use crate::rule::Origin;
+use crate::rule::AnyOrigin;
 use crate::store::{Pass, Store};
 use core_model::Move;
 use core_table::link_index;
@@ -8,7 +8,7 @@ use rock_disk::Cell;
 use std::marker::Brand;
 use tab_states::{followed_at, loosen_at, published_at};
 
-impl<C: Cell, O: Origin> Store<C, O> {
+impl<C: Cell, O: AnyOrigin> Store<C, O> {
     ghost use Rattle.core_model.specs.declared.moves.Move.TheVariants.{GetLink, Loosen, Publish};
     ghost use Rattle.link_word.specs.Words.{link_number};
     ghost use Rattle.store_rule.specs.Passes.{Made, May};

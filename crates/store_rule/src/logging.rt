@@ -1,12 +1,12 @@
 // The step call that logs a piece.
-use crate::rule::Origin;
+use crate::rule::AnyOrigin;
 use crate::store::{Pass, Store};
 use core_model::Move;
 use core_table::log_index;
 use rock_disk::Cell;
 use std::marker::Brand;
 
-impl<C: Cell, O: Origin> Store<C, O> {
+impl<C: Cell, O: AnyOrigin> Store<C, O> {
     ghost use Rattle.core_model.specs.declared.moves.Move.TheVariants.{LogPiece};
     ghost use Rattle.store_rule.specs.Passes.{Made, May};
 

@@ -1,5 +1,5 @@
 // Notes: what a pass has seen, for another pass.
-use crate::rule::{Cut, Deed, Origin, Rests, Taken};
+use crate::rule::{Cut, Deed, AnyOrigin, Rests, Taken};
 use crate::store::{Note, Pass, Store};
 use atomic_table::Seat;
 use core_model::{Row, View};
@@ -7,19 +7,20 @@ use rock_disk::Cell;
 use rock_io::Octets;
 use std::marker::Brand;
 
-impl<C: Cell, O: Origin> Store<C, O> {
+impl<C: Cell, O: AnyOrigin> Store<C, O> {
     ghost use Rattle.std.specs.Prelude.{◌≡◌, ◌∷◌, []};
     ghost use Rattle.store_rule.specs.Told.{the_view, Stands};
     ghost use Rattle.store_rule.specs.Notes.{noting, learning};
+    ghost use Rattle.store_rule.specs.Ground.{packed};
     ghost use Rattle.store_rule.specs.Passes.{basis, view, note_seen, IsOf, IsNoteOf, Keeps};
 
     // A load that is no step of the core: a pass has its view in a sound state.
     fn rest<D: Deed>(&self, seat: &mut Seat<Option<C>, Row<View<Octets>>>)
-        requires named { basis C.tells C.state O.offers self.now ≡ D.basis }
+        requires named { packed (basis C.tells C.state O.offers self.now) ≡ D.basis }
         requires own { seat.old.table_id ≡ self.now.table.shared.table_id }
         requires one { seat.old.me.0 ≡ the_view seat.old.me.0 ∷ [] }
         ensures same { (seat.new.table_id ≡ seat.old.table_id) × (seat.new.me ≡ seat.old.me) }
-        ensures stands { Stands D.basis (the_view seat.old.me.0) }
+        ensures stands { Stands (D.basis).ground (the_view seat.old.me.0) }
     {
         self.table.shared.load::<Rests<D>>(seat, 0);
     }

@@ -9,7 +9,7 @@ ghost use Rattle.store_rule.specs.Setting.{IsRow, IsSettled, basis_of};
 ghost use Rattle.store_rule.specs.Told.{Stands, the_view};
 ghost use Rattle.store_rule.specs.Rebuilding.{HoldNothing, MayOpen, none_kept};
 
-use crate::rule::{About, Off, Origin, Rule};
+use crate::rule::{About, Off, AnyOrigin, Rule};
 use crate::store::{Pass, Store};
 use atomic_table::{Refused, Seat, Table};
 use cell_places::{from_places, to_places};
@@ -65,7 +65,7 @@ type Parts<C, O> = (
 );
 
 // The table of a store at its opening, and the seat that has the views of all passes.
-fn new_table<C: Cell, O: Origin>(
+fn new_table<C: Cell, O: AnyOrigin>(
     alloc: Global,
     words: &[u64],
     places: Vec<Option<C>>,
@@ -94,13 +94,14 @@ pub struct NoRoom<C> {
     pub cells: Vec<C>,
 }
 
-impl<C: Cell, O: Origin> Store<C, O> {
+impl<C: Cell, O: AnyOrigin> Store<C, O> {
     ghost use Rattle.std.specs.Prelude.{◌≡◌, ℕ, ◌+◌, ◌<◌, ◌≤◌, [], ◌∷◌, IfErr, IfOk, vec_len, vec_capacity, All, length, map};
     ghost use Rattle.core_model.specs.Opening.{new_view, new_views};
     ghost use Rattle.store_rule.specs.Told.{Stands};
     ghost use Rattle.store_rule.specs.Setting.{IsRow, IsSettled, shown};
     ghost use Rattle.page_pool.specs.Seats.{IsSeatOf};
     ghost use Rattle.tab_states.specs.Hands.{AreAllHands};
+    ghost use Rattle.store_rule.specs.Ground.{offers_over};
     ghost use Rattle.store_rule.specs.Passes.{AreNumbered, HaveOwnPages, IsNewOf, KeepsRoom, basis, first_cells};
     ghost use Rattle.store_rule.specs.Rebuilding.{IsOpenedWith, IsRebuildOf, none_kept};
 
@@ -175,7 +176,7 @@ impl<C: Cell, O: Origin> Store<C, O> {
         requires cells { IsRow C.state slot cells.items × All (IsSettled C.tells C.state) cells.items }
         requires nothing { HoldNothing C.tells C.state slot cells.items }
         ensures counts { IfOk result (λ r. ((basis C.tells C.state O.offers r.0).setting.anchors ≡ anchors) × ((basis C.tells C.state O.offers r.0).setting.slots ≡ length cells.items) × ((basis C.tells C.state O.offers r.0).setting.passes ≡ passes) × ((basis C.tells C.state O.offers r.0).slot ≡ slot)) }
-        ensures offers { IfOk result (λ r. (basis C.tells C.state O.offers r.0).offers ≡ O.offers origin) }
+        ensures offers { IfOk result (λ r. (basis C.tells C.state O.offers r.0).offers ≡ offers_over C.tells (O.offers origin)) }
         ensures contents { IfOk result (λ r. (basis C.tells C.state O.offers r.0).setting.contents ≡ map (λ c. (shown C.tells C.state c).now) cells.items) }
         ensures opened { IfOk result (λ r. IsOpenedWith (basis C.tells C.state O.offers r.0) (none_kept (length cells.items))) }
         ensures empty { IfOk result (λ r. (a : ℕ) → (basis C.tells C.state O.offers r.0).chain a ≡ []) }
@@ -222,7 +223,7 @@ impl<C: Cell, O: Origin> Store<C, O> {
         requires cells { IsRow C.state slot cells.items × All (IsSettled C.tells C.state) cells.items }
         requires kept { IsRebuildOf C.tells C.state slot anchors cells.items rebuilt.now }
         ensures counts { IfOk result (λ r. ((basis C.tells C.state O.offers r.0).setting.anchors ≡ anchors) × ((basis C.tells C.state O.offers r.0).setting.slots ≡ length cells.items) × ((basis C.tells C.state O.offers r.0).setting.passes ≡ passes) × ((basis C.tells C.state O.offers r.0).slot ≡ slot)) }
-        ensures offers { IfOk result (λ r. (basis C.tells C.state O.offers r.0).offers ≡ O.offers origin) }
+        ensures offers { IfOk result (λ r. (basis C.tells C.state O.offers r.0).offers ≡ offers_over C.tells (O.offers origin)) }
         ensures contents { IfOk result (λ r. (basis C.tells C.state O.offers r.0).setting.contents ≡ map (λ c. (shown C.tells C.state c).now) cells.items) }
         ensures opened { IfOk result (λ r. IsOpenedWith (basis C.tells C.state O.offers r.0) rebuilt.now) }
         ensures passes { IfOk result (λ r. (vec_len r.1 ≡ passes) × All (IsNewOf C.tells C.state O.offers r.0) r.1.items) }

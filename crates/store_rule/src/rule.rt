@@ -7,13 +7,34 @@ use rock_io::Octets;
 use std::marker::{Brand, PhantomData};
 use std::snapshot::Snapshot;
 
-/// Where the responses come from that a store is offered.
+/// Where the responses come from that a store is offered, whether it says what they are or not.
+pub trait AnyOrigin: Drop {
+    ghost use Rattle.std.specs.Prelude.{Bool};
+    ghost use Rattle.store_rule.specs.Ground.{OffersOf};
+
+    /// Whether it says what it offers.
+    ghost says: { Bool };
+
+    /// The URL and the body of each offer, the pass to which an anchor is left alone, and the most slots that an offer
+    /// for an anchor takes. Where it does not say what it offers, URLs and bodies mean nothing.
+    ghost offers: { Self → OffersOf says };
+}
+
+/// One that says what it offers.
 pub trait Origin: Drop {
     ghost use Rattle.store_rule.specs.Ground.{Offers};
 
-    /// The URL and the body of each offer, the pass to which an anchor is left alone, the most slots that an offer
-    /// for an anchor takes, and whether the origin says what it offers.
+    /// The URL and the body of each offer, the pass to which an anchor is left alone, and the most slots that an offer
+    /// for an anchor takes.
     ghost offers: { Self → Offers };
+}
+
+impl<O: Origin> AnyOrigin for O {
+    ghost use Rattle.std.specs.Prelude.{true};
+
+    ghost says = { true };
+
+    ghost offers = { O.Origin.offers };
 }
 
 /// What a store was opened with. It is told to the table once, and only contracts read it.
@@ -36,7 +57,7 @@ pub struct Rule<C, O> {
     marker: PhantomData<(C, O)>,
 }
 
-impl<C: Cell, O: Origin> TableRule<Option<C>, Row<View<Octets>>, About<C, O>> for Rule<C, O> {
+impl<C: Cell, O: AnyOrigin> TableRule<Option<C>, Row<View<Octets>>, About<C, O>> for Rule<C, O> {
     ghost use Rattle.core_model.specs.Opening.{new_views};
     ghost use Rattle.store_rule.specs.Setting.{form_of, basis_of};
     ghost use Rattle.store_rule.specs.Ruled.{Ruled};
@@ -51,9 +72,9 @@ pub trait Deed {
     ghost use Rattle.std.specs.Prelude.{ℕ, List};
     ghost use Rattle.core_model.specs.declared.moves.Move.{Move};
     ghost use Rattle.core_model.specs.declared.view.View.{View};
-    ghost use Rattle.store_rule.specs.Ground.{Ground};
+    ghost use Rattle.store_rule.specs.Ground.{SomeGround};
 
-    ghost basis: { Ground (List ℕ) };
+    ghost basis: { SomeGround (List ℕ) };
 
     ghost made: { Move };
 
@@ -63,9 +84,10 @@ pub trait Deed {
 impl Deed for Brand {
     ghost use Rattle.core_model.specs.declared.moves.Move.TheVariants.{Count};
     ghost use Rattle.core_model.specs.CellMoves.{spent};
+    ghost use Rattle.store_rule.specs.Ground.{packed};
     ghost use Rattle.store_rule.specs.Setting.{no_ground};
 
-    ghost basis = { no_ground };
+    ghost basis = { packed no_ground };
 
     ghost made = { Count };
 
@@ -80,7 +102,7 @@ impl<C: Cell, D: Deed> Play<Option<C>, Row<View<Octets>>> for Does<C, D> {
     ghost use Rattle.store_rule.specs.Setting.{form_of};
     ghost use Rattle.store_rule.specs.Told.{does};
 
-    ghost then = { does (form_of C.tells C.state) D.basis D.made D.from };
+    ghost then = { does (form_of C.tells C.state) (D.basis).ground D.made D.from };
 }
 
 /// A note is cut off.
@@ -125,7 +147,7 @@ pub struct Rests<D> {
 impl<C: Cell, D: Deed> Play<Option<C>, Row<View<Octets>>> for Rests<D> {
     ghost use Rattle.store_rule.specs.Told.{rests};
 
-    ghost then = { rests D.basis };
+    ghost then = { rests (D.basis).ground };
 }
 
 /// A pass is joined again, in front of those that come behind it.

@@ -1,5 +1,5 @@
 // The step calls on the words beside an anchor.
-use crate::rule::Origin;
+use crate::rule::AnyOrigin;
 use crate::store::{Pass, Store};
 use core_model::{Move, Side};
 use core_table::beside_index;
@@ -7,7 +7,7 @@ use rock_disk::Cell;
 use std::marker::Brand;
 use tab_states::loaded_at;
 
-impl<C: Cell, O: Origin> Store<C, O> {
+impl<C: Cell, O: AnyOrigin> Store<C, O> {
     ghost use Rattle.core_model.specs.declared.moves.Move.TheVariants.{LoadSide, StoreSide};
     ghost use Rattle.store_rule.specs.Passes.{May, Made};
 

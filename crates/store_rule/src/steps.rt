@@ -2,7 +2,7 @@
 ghost use Rattle.std.specs.Prelude.{◌≡◌};
 ghost use Rattle.lock_word.specs.Words.{IsWord, IsInRange, word_number};
 
-use crate::rule::Origin;
+use crate::rule::AnyOrigin;
 use crate::store::{Pass, Store};
 use core_model::Move;
 use core_table::{anchor_index, counter_index};
@@ -11,7 +11,7 @@ use rock_disk::Cell;
 use std::marker::Brand;
 use tab_states::{At, entered_at, evict_at, held_at, left_at, raised_at, take_at};
 
-impl<C: Cell, O: Origin> Store<C, O> {
+impl<C: Cell, O: AnyOrigin> Store<C, O> {
     ghost use Rattle.std.specs.Prelude.{◌≡◌, ◌≢◌, OnOk, IfErr};
     ghost use Rattle.lock_word.specs.Words.{IsInRange, word_number};
     ghost use Rattle.core_model.specs.declared.moves.Move.TheVariants.{Look, Enter, Leave, Count, Draw, Take, Evict, Raise, Doom};

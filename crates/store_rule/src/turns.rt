@@ -1,5 +1,5 @@
 // The step calls on the turns of cells, and the moves of a cell under its turn.
-use crate::rule::Origin;
+use crate::rule::AnyOrigin;
 use crate::store::{Pass, Store};
 use core_model::{Move, Then};
 use core_table::turn_index;
@@ -17,7 +17,7 @@ const QUICK_TRIES: u64 = 100;
 /// The tries from which on it sleeps no longer.
 const MOST_TRIES: u64 = QUICK_TRIES + 1_000;
 
-impl<C: Cell, O: Origin> Store<C, O> {
+impl<C: Cell, O: AnyOrigin> Store<C, O> {
     ghost use Rattle.std.specs.Prelude.{ℕ};
     ghost use Rattle.core_model.specs.declared.moves.Move.TheVariants.{EndTurn, TryTurn};
     ghost use Rattle.core_model.specs.declared.moves.Then.TheVariants.{Stays};

@@ -6,4 +6,4 @@ use Rattle.store_rule.proofs.store.Store.draw_version.Goals as goal
 
 pub add_as-requires-clause-step : goal.add_as-requires-clause-step
 add_as-requires-clause-step g c = let s = c.args.self.now in
-    draws (form_of g.C.Cell.tells g.C.Cell.state) (basis g.C.Cell.tells g.C.Cell.state g.O.Origin.offers c.args.self.now) s.table.shared.table_id c.args.pass.now.seat c.requires.own.table (wide _ _ _ _ _ s.sized s.anchors_are s.slots_are) c.args.pass.now.one _ (counted_at _ _ _ _ _ c.counter_index-place.ensures s.anchors_are s.slots_are) (may_of c.args.pass.now c.requires.can.allowed)
+    draws (form_of g.C.Cell.tells g.C.Cell.state) (basis g.C.Cell.tells g.C.Cell.state g.O.AnyOrigin.offers c.args.self.now) s.table.shared.table_id c.args.pass.now.seat c.requires.own.table (wide _ _ _ _ _ s.sized s.anchors_are s.slots_are) c.args.pass.now.one _ (counted_at _ _ _ _ _ c.counter_index-place.ensures s.anchors_are s.slots_are) (may_of c.args.pass.now c.requires.can.allowed)

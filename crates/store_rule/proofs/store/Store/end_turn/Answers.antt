@@ -11,7 +11,7 @@ use Rattle.store_rule.proofs.Turning.{has_next, ended_from, ended_hand, ended_in
 use Rattle.store_rule.proofs.store.Store.end_turn.Goals as goal
 
 pub swap_as-requires-clause-step : goal.swap_as-requires-clause-step
-swap_as-requires-clause-step g c = let s = c.args.self.now in let b = basis g.C.Cell.tells g.C.Cell.state g.O.Origin.offers c.args.self.now in
+swap_as-requires-clause-step g c = let s = c.args.self.now in let b = basis g.C.Cell.tells g.C.Cell.state g.O.AnyOrigin.offers c.args.self.now in
     let form = form_of g.C.Cell.tells g.C.Cell.state in let p = c.args.pass.now in let h = c.requires.home in let v = view p in
     let may = may_of p c.requires.may.can.allowed in
     ends_ form b s.table.shared.table_id p.seat c.requires.may.own.table (wide _ _ _ _ _ s.sized s.anchors_are s.slots_are) p.one c.args.tab c.args.slot _ c.args.then h.cell _ _ _
@@ -21,7 +21,7 @@ swap_as-requires-clause-step g c = let s = c.args.self.now in let b = basis g.C.
 
 pub invariant_of-pass : goal.invariant_of-pass
 invariant_of-pass g c = let told = c.swap_as.ensures.told in let h = c.requires.home in let v = view c.args.pass.now in
-    let b = basis g.C.Cell.tells g.C.Cell.state g.O.Origin.offers c.args.self.now in let form = form_of g.C.Cell.tells g.C.Cell.state in record {
+    let b = basis g.C.Cell.tells g.C.Cell.state g.O.AnyOrigin.offers c.args.self.now in let form = form_of g.C.Cell.tells g.C.Cell.state in record {
       one = told.one;
       nine = kept_nine _ _ _ _ c.args.pass.now.nine c.set.ensures;
       nine_left = c.args.pass.now.nine_left;
@@ -31,7 +31,7 @@ invariant_of-pass g c = let told = c.swap_as.ensures.told in let h = c.requires.
 
 pub returns : goal.returns
 returns g c = let met = c.swap_as.ensures in let h = c.requires.home in let v = view c.args.pass.now in
-    let b = basis g.C.Cell.tells g.C.Cell.state g.O.Origin.offers c.args.self.now in let form = form_of g.C.Cell.tells g.C.Cell.state in
+    let b = basis g.C.Cell.tells g.C.Cell.state g.O.AnyOrigin.offers c.args.self.now in let form = form_of g.C.Cell.tells g.C.Cell.state in
     let from = ends_from_hand b.setting form _ _ c.args.tab c.args.slot v h.cell h.place in record {
       own = record { table = met.own ∙ c.requires.may.own.table; stands = met.told.stands; buffers = c.requires.may.own.buffers };
       cell = h.cell;
@@ -48,4 +48,4 @@ returns g c = let met = c.swap_as.ensures in let h = c.requires.home in let v = 
 
 pub ended_at-requires : goal.ended_at-requires
 ended_at-requires g c = subst (λ (z : At). HasNext z c.args.then) (sym c.at-at.ensures)
-    (has_next (basis g.C.Cell.tells g.C.Cell.state g.O.Origin.offers c.args.self.now) (view c.args.pass.now) c.requires.may.own.stands c.args.tab c.args.slot c.args.then (few_slots _ _ c.args.self.now.slots_are c.args.self.now.few) (may_of c.args.pass.now c.requires.may.can.allowed))
+    (has_next (basis g.C.Cell.tells g.C.Cell.state g.O.AnyOrigin.offers c.args.self.now) (view c.args.pass.now) c.requires.may.own.stands c.args.tab c.args.slot c.args.then (few_slots _ _ c.args.self.now.slots_are c.args.self.now.few) (may_of c.args.pass.now c.requires.may.can.allowed))

@@ -1,6 +1,7 @@
 use Rattle.store_rule.specs.Told.{the_view}
+use Rattle.store_rule.specs.Ground.{packed}
 use Rattle.store_rule.specs.Passes.{basis}
 use Rattle.store_rule.proofs.store.Store.enter.Given as goal
 
 abbrev pub ghosts-add_as : goal.ghosts-add_as
-ghosts-add_as g a = record { basis = basis g.C.Cell.tells g.C.Cell.state g.O.Origin.offers a.self.now; made = a.made; from = the_view a.seat.now.me.0 }
+ghosts-add_as g a = record { basis = packed (basis g.C.Cell.tells g.C.Cell.state g.O.AnyOrigin.offers a.self.now); made = a.made; from = the_view a.seat.now.me.0 }

@@ -8,7 +8,7 @@ use Rattle.store_rule.proofs.store.Store.evict_word.Goals as goal
 
 pub exchange_as-found-requires-clause-step : goal.exchange_as-found-requires-clause-step
 exchange_as-found-requires-clause-step g c = let s = c.args.self.now in
-    evicts (form_of g.C.Cell.tells g.C.Cell.state) (basis g.C.Cell.tells g.C.Cell.state g.O.Origin.offers c.args.self.now) s.table.shared.table_id c.args.pass.now.seat c.requires.may.own.table (wide _ _ _ _ _ s.sized s.anchors_are s.slots_are) c.args.pass.now.one c.args.tab c.args.anchor _ _ _ c.anchor_index-place.ensures c.requires.old c.evicted_number-freed.ensures (may_of c.args.pass.now c.requires.may.can.allowed) c.requires.may.can.asks
+    evicts (form_of g.C.Cell.tells g.C.Cell.state) (basis g.C.Cell.tells g.C.Cell.state g.O.AnyOrigin.offers c.args.self.now) s.table.shared.table_id c.args.pass.now.seat c.requires.may.own.table (wide _ _ _ _ _ s.sized s.anchors_are s.slots_are) c.args.pass.now.one c.args.tab c.args.anchor _ _ _ c.anchor_index-place.ensures c.requires.old c.evicted_number-freed.ensures (may_of c.args.pass.now c.requires.may.can.allowed) c.requires.may.can.asks
 
 pub word_of-requires : goal.word_of-requires
 word_of-requires g c = (known_of _ _ _ _ _ c.exchange_as-found.ensures.told.step).anchors.good

@@ -7,7 +7,7 @@ use Rattle.store_rule.proofs.store.Store.exit.Goals as goal
 
 pub sub_as-found-requires-clause-step : goal.sub_as-found-requires-clause-step
 sub_as-found-requires-clause-step g c = let s = c.args.self.now in
-    leaves (form_of g.C.Cell.tells g.C.Cell.state) (basis g.C.Cell.tells g.C.Cell.state g.O.Origin.offers c.args.self.now) s.table.shared.table_id c.args.pass.now.seat c.requires.own.table (wide _ _ _ _ _ s.sized s.anchors_are s.slots_are) c.args.pass.now.one c.args.tab _ (anchored_at _ _ _ c.anchor_index-place.ensures c.anchor-anchor.ensures) c.requires.own.stands (may_of c.args.pass.now c.requires.can.allowed)
+    leaves (form_of g.C.Cell.tells g.C.Cell.state) (basis g.C.Cell.tells g.C.Cell.state g.O.AnyOrigin.offers c.args.self.now) s.table.shared.table_id c.args.pass.now.seat c.requires.own.table (wide _ _ _ _ _ s.sized s.anchors_are s.slots_are) c.args.pass.now.one c.args.tab _ (anchored_at _ _ _ c.anchor_index-place.ensures c.anchor-anchor.ensures) c.requires.own.stands (may_of c.args.pass.now c.requires.can.allowed)
 
 pub overflow_sub-left : goal.overflow_sub-left
 overflow_sub-left g c = (left_word _ _ _ _ _ c.sub_as-found.ensures.told.step).0

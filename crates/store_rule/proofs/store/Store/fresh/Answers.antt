@@ -14,12 +14,12 @@ of_rebuild-requires-clause-kept g c = let cells = c.args.cells.items in
 
 pub returns-clause-opened : goal.returns-clause-opened
 returns-clause-opened g c = IfOk-weaker c.of_rebuild.result _ _
-    (λ r opened. subst (IsOpenedWith (basis g.C.Cell.tells g.C.Cell.state g.O.Origin.offers r.0))
+    (λ r opened. subst (IsOpenedWith (basis g.C.Cell.tells g.C.Cell.state g.O.AnyOrigin.offers r.0))
     (nothing_is _ _ (c.from_vec.ensures ∙ c.new.ensures.items) (c.from_vec-2.ensures ∙ c.in-Ok.ensures.items_if_clones_equal (λ y e. e)) refl (c.len.ensures ∙ c.args.cells.ok.0)) opened)
     c.of_rebuild.ensures.opened
 
 pub returns-clause-empty : goal.returns-clause-empty
 returns-clause-empty g c = IfOk-weaker c.of_rebuild.result _ _
-    (λ r opened a. let b = basis g.C.Cell.tells g.C.Cell.state g.O.Origin.offers r.0 in
+    (λ r opened a. let b = basis g.C.Cell.tells g.C.Cell.state g.O.AnyOrigin.offers r.0 in
     ap (λ (chain : ℕ → List ℕ). chain a) opened.chain ∙ ap (λ (kept : List Found). chain_kept kept b.setting.anchors a) (c.from_vec.ensures ∙ c.new.ensures.items) ∙ none_chained b.setting.anchors a)
     c.of_rebuild.ensures.opened

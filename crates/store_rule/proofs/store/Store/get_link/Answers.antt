@@ -11,7 +11,7 @@ use Rattle.store_rule.proofs.store.Store.get_link.Goals as goal
 
 pub load_as-found-requires-clause-step : goal.load_as-found-requires-clause-step
 load_as-found-requires-clause-step g c = let s = c.args.self.now in
-    follows_ (form_of g.C.Cell.tells g.C.Cell.state) (basis g.C.Cell.tells g.C.Cell.state g.O.Origin.offers c.args.self.now) s.table.shared.table_id c.args.pass.now.seat c.requires.own.table (wide _ _ _ _ _ s.sized s.anchors_are s.slots_are) c.args.pass.now.one c.args.tab c.args.slot _ (linked_at _ _ _ _ c.link_index-place.ensures s.anchors_are) c.requires.own.stands (may_of c.args.pass.now c.requires.can.allowed)
+    follows_ (form_of g.C.Cell.tells g.C.Cell.state) (basis g.C.Cell.tells g.C.Cell.state g.O.AnyOrigin.offers c.args.self.now) s.table.shared.table_id c.args.pass.now.seat c.requires.own.table (wide _ _ _ _ _ s.sized s.anchors_are s.slots_are) c.args.pass.now.one c.args.tab c.args.slot _ (linked_at _ _ _ _ c.link_index-place.ensures s.anchors_are) c.requires.own.stands (may_of c.args.pass.now c.requires.can.allowed)
 
 pub unreachable-requires : goal.unreachable-requires
 unreachable-requires g c = let fits = link_fits _ (view c.args.pass.now) _ c.args.tab c.args.slot _ (few_slots _ _ c.args.self.now.slots_are c.args.self.now.few) (may_of c.args.pass.now c.requires.can.allowed) c.load_as-found.ensures.told.step in

@@ -1,6 +1,7 @@
 use Rattle.store_rule.specs.Told.{the_view}
+use Rattle.store_rule.specs.Ground.{packed}
 use Rattle.store_rule.specs.Passes.{basis}
 use Rattle.store_rule.proofs.store.Store.get_link.Given as goal
 
 abbrev pub ghosts-load_as : goal.ghosts-load_as
-ghosts-load_as g a = record { basis = basis g.C.Cell.tells g.C.Cell.state g.O.Origin.offers a.self.now; made = a.made; from = the_view a.seat.now.me.0 }
+ghosts-load_as g a = record { basis = packed (basis g.C.Cell.tells g.C.Cell.state g.O.AnyOrigin.offers a.self.now); made = a.made; from = the_view a.seat.now.me.0 }

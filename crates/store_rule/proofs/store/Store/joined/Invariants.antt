@@ -12,7 +12,7 @@ abbrev pub invariant-loop-pass : goal.invariant-loop-pass
 invariant-loop-pass g l = record {
   own : l.seat.table_id ≡ l.self.table.shared.table_id;
   row : views_of l.fn.passes.items ≡ views_of l.passes.items ++ l.seat.me.0;
-  all : All (IsOf g.C.Cell.tells g.C.Cell.state g.O.Origin.offers l.self) l.passes.items;
+  all : All (IsOf g.C.Cell.tells g.C.Cell.state g.O.AnyOrigin.offers l.self) l.passes.items;
   rest : All IsResting l.passes.items;
   first : (cells : Vec g.row.C.Denot) → first_cells l.fn.passes.items cells ≡ first_cells l.passes.items l.cells;
 }

@@ -7,4 +7,4 @@ use Rattle.store_rule.proofs.store.Store.learn.Goals as goal
 
 pub join_seat-requires : goal.join_seat-requires
 join_seat-requires g c = let s = c.args.self.now in let n = c.args.note in
-    (c.requires.pass.table, c.requires.note, n.empty, some_word _ _ _ s.sized, note_joins (form_of g.C.Cell.tells g.C.Cell.state) (basis g.C.Cell.tells g.C.Cell.state g.O.Origin.offers c.args.self.now) _ _ _ _ c.args.pass.now.one (pass_of c.args.pass.now) n.one n.none)
+    (c.requires.pass.table, c.requires.note, n.empty, some_word _ _ _ s.sized, note_joins (form_of g.C.Cell.tells g.C.Cell.state) (basis g.C.Cell.tells g.C.Cell.state g.O.AnyOrigin.offers c.args.self.now) _ _ _ _ c.args.pass.now.one (pass_of c.args.pass.now) n.one n.none)

@@ -21,8 +21,8 @@ pub new_table-requires-clause-rule : goal.new_table-requires-clause-rule
 new_table-requires-clause-rule g c = let r = c.requires in
     let kept = subst (λ z. IsKept c.args.anchors (length z) c.args.rebuilt.now) (sym c.as_slice.ensures.value) (kept_of g.C.Cell.tells g.C.Cell.state c.args.slot c.args.anchors c.args.cells.items c.args.rebuilt.now r.kept) in
     let about : About g.row.C.Denot g.row.O.Denot = record { anchors = c.args.anchors; slots = length c.as_slice.result.now; passes = c.args.passes; slot = c.args.slot; words = c.of.result; places = c.of-2.result; kept = c.of-3.result; origin = c.of-4.result } in
-    may_open g.C.Cell.tells g.C.Cell.state g.O.Origin.offers about c.args.rebuilt.now c.of-3.ensures
-    (about_opens g.C.Cell.tells g.C.Cell.state g.O.Origin.offers about c.in-Ok.field-0 c.args.rebuilt.now c.args.cells.items c.in-Ok.ensures kept r.anchors r.passes.1
+    may_open g.C.Cell.tells g.C.Cell.state g.O.AnyOrigin.offers about c.args.rebuilt.now c.of-3.ensures
+    (about_opens g.C.Cell.tells g.C.Cell.state g.O.AnyOrigin.offers about c.in-Ok.field-0 c.args.rebuilt.now c.args.cells.items c.in-Ok.ensures kept r.anchors r.passes.1
     (ap (λ z. z.items) c.of.ensures) (ap (λ z. z.items) c.of-2.ensures ∙ c.in-Ok-to_places.ensures.ok.0) (ap length (sym c.as_slice.ensures.value))
     (let few = r.slots in let same = ap length c.as_slice.ensures.value in omega arith) c.of-3.ensures)
 
@@ -34,14 +34,14 @@ returns-in-Err-clause-err g c = same_cells _ _ (sym c.from_places.ensures ∙ c.
 
 pub returns-in-Ok-new_table-clause-contents : goal.returns-in-Ok-new_table-clause-contents
 returns-in-Ok-new_table-clause-contents g c = ap (λ (z : About g.row.C.Denot g.row.O.Denot). map (now_in g.C.Cell.tells g.C.Cell.state) z.places.value.items) c.in-Ok-new_table.ensures.key
-    ∙ ap (map (now_in g.C.Cell.tells g.C.Cell.state)) (ap (λ z. z.items) c.of-2.ensures ∙ c.in-Ok-to_places.ensures.ok.0) ∙ all_now g.C.Cell.tells g.C.Cell.state g.O.Origin.offers c.args.cells.items
+    ∙ ap (map (now_in g.C.Cell.tells g.C.Cell.state)) (ap (λ z. z.items) c.of-2.ensures ∙ c.in-Ok-to_places.ensures.ok.0) ∙ all_now g.C.Cell.tells g.C.Cell.state g.O.AnyOrigin.offers c.args.cells.items
 
 pub returns-in-Ok-new_table-clause-opened : goal.returns-in-Ok-new_table-clause-opened
 returns-in-Ok-new_table-clause-opened g c = let r = c.requires in
     let kept = subst (λ z. IsKept c.args.anchors (length z) c.args.rebuilt.now) (sym c.as_slice.ensures.value) (kept_of g.C.Cell.tells g.C.Cell.state c.args.slot c.args.anchors c.args.cells.items c.args.rebuilt.now r.kept) in
     let about : About g.row.C.Denot g.row.O.Denot = record { anchors = c.args.anchors; slots = length c.as_slice.result.now; passes = c.args.passes; slot = c.args.slot; words = c.of.result; places = c.of-2.result; kept = c.of-3.result; origin = c.of-4.result } in
-    key_opens g.C.Cell.tells g.C.Cell.state g.O.Origin.offers about _ c.args.rebuilt.now c.in-Ok-new_table.ensures.key
-    (about_opens g.C.Cell.tells g.C.Cell.state g.O.Origin.offers about c.in-Ok.field-0 c.args.rebuilt.now c.args.cells.items c.in-Ok.ensures kept r.anchors r.passes.1
+    key_opens g.C.Cell.tells g.C.Cell.state g.O.AnyOrigin.offers about _ c.args.rebuilt.now c.in-Ok-new_table.ensures.key
+    (about_opens g.C.Cell.tells g.C.Cell.state g.O.AnyOrigin.offers about c.in-Ok.field-0 c.args.rebuilt.now c.args.cells.items c.in-Ok.ensures kept r.anchors r.passes.1
     (ap (λ z. z.items) c.of.ensures) (ap (λ z. z.items) c.of-2.ensures ∙ c.in-Ok-to_places.ensures.ok.0) (ap length (sym c.as_slice.ensures.value))
     (let few = r.slots in let same = ap length c.as_slice.ensures.value in omega arith) c.of-3.ensures)
 

@@ -7,7 +7,7 @@ use Rattle.store_rule.specs.Passes.{AreNumbered, IsNewOf, basis, first_cells}
 use Rattle.store_rule.proofs.store.Store.part_all.Given as goal
 
 abbrev pub invariant-loop-number : goal.invariant-loop-number
-invariant-loop-number g l = let b = basis g.C.Cell.tells g.C.Cell.state g.O.Origin.offers l.self in record {
+invariant-loop-number g l = let b = basis g.C.Cell.tells g.C.Cell.state g.O.AnyOrigin.offers l.self in record {
   from : 1 ≤ l.number;
   to : l.number ≤ l.passes;
   own : l.seat.table_id ≡ l.self.table.shared.table_id;
@@ -20,5 +20,5 @@ invariant-loop-number g l = let b = basis g.C.Cell.tells g.C.Cell.state g.O.Orig
   room : l.passes ≤ vec_capacity l.made;
   numbered : AreNumbered l.made.items;
   first : first_cells l.made.items l.cells ≡ l.fn.cells;
-  fresh : All (IsNewOf g.C.Cell.tells g.C.Cell.state g.O.Origin.offers l.self) l.made.items;
+  fresh : All (IsNewOf g.C.Cell.tells g.C.Cell.state g.O.AnyOrigin.offers l.self) l.made.items;
 }

@@ -13,7 +13,7 @@ use Rattle.store_rule.proofs.store.Store.raise.Goals as goal
 
 pub add_as-found-requires-clause-step : goal.add_as-found-requires-clause-step
 add_as-found-requires-clause-step g c = let s = c.args.self.now in
-    raises (form_of g.C.Cell.tells g.C.Cell.state) (basis g.C.Cell.tells g.C.Cell.state g.O.Origin.offers c.args.self.now) s.table.shared.table_id c.args.pass.now.seat c.requires.own.table (wide _ _ _ _ _ s.sized s.anchors_are s.slots_are) c.args.pass.now.one c.args.tab c.args.to _ _ (anchored_at _ _ _ c.anchor_index-place.ensures c.anchor-anchor.ensures) (λ i. 65536 * (c.number.ensures i - held_stage (tab_at (view c.args.pass.now) c.args.tab) _ _ c.held_at.ensures c.at-at.ensures i)) c.requires.own.stands (may_of c.args.pass.now c.requires.can.allowed)
+    raises (form_of g.C.Cell.tells g.C.Cell.state) (basis g.C.Cell.tells g.C.Cell.state g.O.AnyOrigin.offers c.args.self.now) s.table.shared.table_id c.args.pass.now.seat c.requires.own.table (wide _ _ _ _ _ s.sized s.anchors_are s.slots_are) c.args.pass.now.one c.args.tab c.args.to _ _ (anchored_at _ _ _ c.anchor_index-place.ensures c.anchor-anchor.ensures) (λ i. 65536 * (c.number.ensures i - held_stage (tab_at (view c.args.pass.now) c.args.tab) _ _ c.held_at.ensures c.at-at.ensures i)) c.requires.own.stands (may_of c.args.pass.now c.requires.can.allowed)
 
 pub overflow_add-left : goal.overflow_add-left
 overflow_add-left g c = record { fits = (raised_word _ _ _ _ _ _ _ (λ i. 65536 * (c.number.ensures i - held_stage (tab_at (view c.args.pass.now) c.args.tab) _ _ c.held_at.ensures c.at-at.ensures i)) c.add_as-found.ensures.told.step).0 }

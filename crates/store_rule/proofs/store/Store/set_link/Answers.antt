@@ -12,11 +12,11 @@ use Rattle.store_rule.proofs.store.Store.set_link.Goals as goal
 
 pub swap_as-requires-clause-step : goal.swap_as-requires-clause-step
 swap_as-requires-clause-step g c = let s = c.args.self.now in
-    publishes_ (form_of g.C.Cell.tells g.C.Cell.state) (basis g.C.Cell.tells g.C.Cell.state g.O.Origin.offers c.args.self.now) s.table.shared.table_id c.args.pass.now.seat c.requires.own.table (wide _ _ _ _ _ s.sized s.anchors_are s.slots_are) c.args.pass.now.one c.args.tab c.args.slot c.args.link _ _ (linked_at _ _ _ _ c.link_index-place.ensures s.anchors_are) c.pack_link.ensures c.requires.own.stands (may_of c.args.pass.now c.requires.can.allowed)
+    publishes_ (form_of g.C.Cell.tells g.C.Cell.state) (basis g.C.Cell.tells g.C.Cell.state g.O.AnyOrigin.offers c.args.self.now) s.table.shared.table_id c.args.pass.now.seat c.requires.own.table (wide _ _ _ _ _ s.sized s.anchors_are s.slots_are) c.args.pass.now.one c.args.tab c.args.slot c.args.link _ _ (linked_at _ _ _ _ c.link_index-place.ensures s.anchors_are) c.pack_link.ensures c.requires.own.stands (may_of c.args.pass.now c.requires.can.allowed)
 
 pub published_at-requires : goal.published_at-requires
 published_at-requires g c = subst HasPlace (sym c.at-at.ensures)
-    (has_place (basis g.C.Cell.tells g.C.Cell.state g.O.Origin.offers c.args.self.now) (view c.args.pass.now) c.args.tab c.args.slot c.args.link (few_slots _ _ c.args.self.now.slots_are c.args.self.now.few) c.requires.own.stands (may_of c.args.pass.now c.requires.can.allowed))
+    (has_place (basis g.C.Cell.tells g.C.Cell.state g.O.AnyOrigin.offers c.args.self.now) (view c.args.pass.now) c.args.tab c.args.slot c.args.link (few_slots _ _ c.args.self.now.slots_are c.args.self.now.few) c.requires.own.stands (may_of c.args.pass.now c.requires.can.allowed))
 
 pub invariant_of-pass : goal.invariant_of-pass
 invariant_of-pass g c = let told = c.swap_as.ensures.told in record {

@@ -8,7 +8,7 @@ use Rattle.store_rule.proofs.store.Store.try_turn.Goals as goal
 
 pub exchange_as-found-requires-clause-step : goal.exchange_as-found-requires-clause-step
 exchange_as-found-requires-clause-step g c = let s = c.args.self.now in
-    tries_ (form_of g.C.Cell.tells g.C.Cell.state) (basis g.C.Cell.tells g.C.Cell.state g.O.Origin.offers c.args.self.now) s.table.shared.table_id c.args.pass.now.seat c.requires.own.table (wide _ _ _ _ _ s.sized s.anchors_are s.slots_are) c.args.pass.now.one c.args.tab c.args.slot _ (turn_stands_at _ _ _ _ c.turn_index-place.ensures s.anchors_are) c.requires.own.stands (may_of c.args.pass.now c.requires.can.allowed)
+    tries_ (form_of g.C.Cell.tells g.C.Cell.state) (basis g.C.Cell.tells g.C.Cell.state g.O.AnyOrigin.offers c.args.self.now) s.table.shared.table_id c.args.pass.now.seat c.requires.own.table (wide _ _ _ _ _ s.sized s.anchors_are s.slots_are) c.args.pass.now.one c.args.tab c.args.slot _ (turn_stands_at _ _ _ _ c.turn_index-place.ensures s.anchors_are) c.requires.own.stands (may_of c.args.pass.now c.requires.can.allowed)
 
 pub invariant_of-pass : goal.invariant_of-pass
 invariant_of-pass g c = let told = c.exchange_as-found.ensures.told in record {
@@ -20,7 +20,7 @@ invariant_of-pass g c = let told = c.exchange_as-found.ensures.told in record {
 }
 
 pub returns : goal.returns
-returns g c = let met = c.exchange_as-found.ensures in let found = c.exchange_as-found.result in let b = basis g.C.Cell.tells g.C.Cell.state g.O.Origin.offers c.args.self.now in
+returns g c = let met = c.exchange_as-found.ensures in let found = c.exchange_as-found.result in let b = basis g.C.Cell.tells g.C.Cell.state g.O.AnyOrigin.offers c.args.self.now in
     let may = may_of c.args.pass.now c.requires.can.allowed in let lt = tried_inside b _ c.requires.own.stands c.args.tab c.args.slot may in
     let form = form_of g.C.Cell.tells g.C.Cell.state in record {
       found = found;

@@ -14,7 +14,7 @@ returns-then-try_turn g c = let i = c.loop.invariant in record {
 
 pub loop-preserved : goal.loop-preserved
 loop-preserved g c = let i = c.loop.invariant in let kept = i.kept in let tried = c.try_turn.ensures in let made = tried.made in
-    let b = basis g.C.Cell.tells g.C.Cell.state g.O.Origin.offers c.args.self.now in
+    let b = basis g.C.Cell.tells g.C.Cell.state g.O.AnyOrigin.offers c.args.self.now in
     let missed = turn_missed _ _ (tried.is_won ∙ ap (λ (n : ℕ). n == 0) made.answers) c.if-try_turn.false in record {
       may = record { own = made.own; can = may_again b _ _ c.args.tab c.args.slot made.found made.step missed i.may.can };
       kept = record {

@@ -7,8 +7,8 @@ use Rattle.store_rule.proofs.store.Store.wait_turn.Given as goal
 
 abbrev pub invariant-loop : goal.invariant-loop
 invariant-loop g l = record {
-  may : May g.C.Cell.tells g.C.Cell.state g.O.Origin.offers l.self l.pass (TryTurn l.tab l.slot);
-  kept : Keeps g.C.Cell.tells g.C.Cell.state g.O.Origin.offers l.self l.initial.pass l.pass;
-  lost : (views : List (View (List ℕ))) × Lost (basis g.C.Cell.tells g.C.Cell.state g.O.Origin.offers l.self) l.tab l.slot (view l.initial.pass) views (view l.pass);
+  may : May g.C.Cell.tells g.C.Cell.state g.O.AnyOrigin.offers l.self l.pass (TryTurn l.tab l.slot);
+  kept : Keeps g.C.Cell.tells g.C.Cell.state g.O.AnyOrigin.offers l.self l.initial.pass l.pass;
+  lost : (views : List (View (List ℕ))) × Lost (basis g.C.Cell.tells g.C.Cell.state g.O.AnyOrigin.offers l.self) l.tab l.slot (view l.initial.pass) views (view l.pass);
   few : l.tries ≤ 1100;
 }
