@@ -17,14 +17,13 @@ use Rattle.rebuild_model.specs.Rebuilt.{IsRebuilt}
 use Rattle.core_model.specs.declared.tab.Piece.{Piece}
 use Rattle.core_model.specs.State.{State}
 use Rattle.core_model.proofs.Lists.{at_or}
-use Rattle.core_log.specs.Keeps.{HasLog}
 use Rattle.crash_entries.specs.Parts.{KeepsTo, bytes_of, cut_of, next_number as next_in}
 use Rattle.crash_entries.proofs.Telling.{Tools}
 use Rattle.crash_laws.specs.Left.{IsFileOf, IsWholeOffer, LogKeeps, logged_part, part_of}
 use Rattle.crash_laws.proofs.Crashing.{entries}
 use Rattle.store_rule.specs.declared.store.Pass.{Pass}
 use Rattle.store_rule.specs.declared.store.Store.{Store}
-use Rattle.store_rule.specs.Ground.{Ground, Offers, Rule, offering_of}
+use Rattle.store_rule.specs.Ground.{Ground, IsLogged, Offers, Rule}
 use Rattle.store_rule.specs.Passes.{basis}
 use Rattle.store_rule.specs.Setting.{blank_in, image_in, next_number, shown}
 use Rattle.rock_open.specs.Opening.{IsStoreOver}
@@ -100,7 +99,7 @@ module _ {C O : Type 0} (tells : Bool) (told : IsTrue tells) (cell : C → CellS
   }
 
   module _ (s : State (List ℕ)) (rule : Rule g s) where
-    abbrev logged : HasLog (offering_of g) g.setting s
+    abbrev logged : IsLogged g s
     logged = rule.logged
 
     pub keeps : LogKeeps slot (offers_in g) g.setting logged.log

@@ -25,7 +25,7 @@ use Rattle.core_alone.specs.Touched.{touched_by}
 use Rattle.store_rule.specs.declared.store.Pass.{Pass}
 use Rattle.store_rule.specs.declared.store.Store.{Store}
 use Rattle.core_room.specs.Conditions.{HasCome, MayBegin}
-use Rattle.store_rule.specs.Ground.{Asks, Ground, Offers, fits, need_of}
+use Rattle.store_rule.specs.Ground.{Asks, GroundOf, OffersOf, fits, need_of}
 use Rattle.store_rule.specs.Passes.{Made}
 use Rattle.store_rule.specs.Told.{Stands, Steps, found_as}
 use Rattle.store_rule.specs.Calls.{Follows}
@@ -52,7 +52,7 @@ all_and x items one all zero d lt = one
 all_and x items one all (suc k) d lt = all k d (omega arith)
 
 -- looks at the map and tries for slots count no reader and doom nothing
-pub passed_quiet : {X : Type 0} {g : Ground X} {v w : View X} {slot : ℕ} {d : Added} → Passed g v slot d w → Quiet v w
+pub passed_quiet : {X : Type 0} {says : Bool} {g : GroundOf says X} {v w : View X} {slot : ℕ} {d : Added} → Passed g v slot d w → Quiet v w
 passed_quiet {X} {g} {v} {w} {slot} {d} h = quiet_went h.went (λ k x lt e. no_entering _ (h.kinds k x lt) e) (λ k x lt e. no_doom _ (h.kinds k x lt) e)
   where
     no_entering : (kind : Kind) → (kind ≡ Searched) ⊎ (kind ≡ Owned) → kind ≢ Entered
@@ -79,7 +79,7 @@ bit_set word bit n lt is = ap (bit_at n) (bit_is word bit lt) ∙ is
 pub bit_clear : (word bit n : ℕ) → bit < 64 → bit_at n bit ≢ 1 → taken_in n (64 * word + bit) ≡ 0
 bit_clear word bit n lt ne = ap (bit_at n) (bit_is word bit lt) ∙ dite (ℕ_discrete (bit_at n bit) 0) (λ e. e) (λ no. absurd (ne (let y = bit_at-lt n bit in omega arith)))
 
-module _ {X : Type 0} (g : Ground X) (t : ℕ) (v : View X) (x : Writer X) where
+module _ {X : Type 0} {says : Bool} (g : GroundOf says X) (t : ℕ) (v : View X) (x : Writer X) where
   -- the tab with a search that has come so far
   abbrev tab_to : Option ℕ → Tab X
   tab_to claim = Writing record x { claim = claim }
@@ -468,13 +468,13 @@ module _ {X : Type 0} (g : Ground X) (t : ℕ) (v : View X) (x : Writer X) where
       at_first p le (inr ge) = absurd (omega arith)
 
 -- the same of the tab's writer, whichever it is
-pub record WordCame {X : Type 0} (g : Ground X) (t : ℕ) (v : View X) (word : ℕ) (u : View X) : Type 0 where
+pub record WordCame {X : Type 0} {says : Bool} (g : GroundOf says X) (t : ℕ) (v : View X) (word : ℕ) (u : View X) : Type 0 where
   pub writer : Writer X
   pub is : tab_at v t ≡ Writing writer
   pub may : MayReserve writer
   pub at : AtWord g t v writer word u
 
-pub record BitCame {X : Type 0} (g : Ground X) (t : ℕ) (v : View X) (word from bits : ℕ) (u : View X) : Type 0 where
+pub record BitCame {X : Type 0} {says : Bool} (g : GroundOf says X) (t : ℕ) (v : View X) (word from bits : ℕ) (u : View X) : Type 0 where
   pub writer : Writer X
   pub is : tab_at v t ≡ Writing writer
   pub may : MayReserve writer
@@ -489,7 +489,7 @@ writer_is (Reading r) h = absurd h
 writer_is (Last a) h = absurd h
 writer_is (Freeing f) h = absurd h
 
-module _ {C O : Type 0} (tells : Bool) (state : C → CellState) (offers : O → Offers) (s : Store C O) (p q : Pass C) (t : ℕ) where
+module _ {C O : Type 0} (tells : Bool) (state : C → CellState) {says : Bool} (offers : O → OffersOf says) (s : Store C O) (p q : Pass C) (t : ℕ) where
   pub look_follows : (word : ℕ) (r : Pass C) (told : ℕ) → Follows tells state offers s t p q → Made tells state offers s q (LookMap t word) told r → Follows tells state offers s t p r
   look_follows word r told first made = follows_on tells state offers s t p q r first
       (made_follows tells state offers s t q r (LookMap t word) told made (λ u e. ap (λ (o : Option ℕ). unwrap_or o t) (sym e)) (λ h. h))

@@ -14,13 +14,13 @@ use Rattle.core_model.specs.declared.view.View.{View}
 use Rattle.core_room.specs.Conditions.{MayBegin}
 use Rattle.store_rule.specs.declared.store.Pass.{Pass}
 use Rattle.store_rule.specs.declared.store.Store.{Store}
-use Rattle.store_rule.specs.Ground.{Ground, Offers, fits, need_of}
+use Rattle.store_rule.specs.Ground.{GroundOf, OffersOf, fits, need_of}
 use Rattle.store_rule.specs.Passes.{IsOf, basis, view}
 use Rattle.store_rule.specs.Runs.{Added, Went}
 use Rattle.store_rule.specs.Words.{Mine, has, is_free_slot}
 
 -- The tab may reserve one slot more. In a store that fits, its entry has with that at most as many as are needed at its anchor.
-pub record MayClaim {C O : Type 0} (tells : Bool) (state : C → CellState) (offers : O → Offers) (s : Store C O) (p : Pass C) (t : ℕ) : Type 0 where
+pub record MayClaim {C O : Type 0} (tells : Bool) (state : C → CellState) {says : Bool} (offers : O → OffersOf says) (s : Store C O) (p : Pass C) (t : ℕ) : Type 0 where
   pub own : IsOf tells state offers s p
   pub below : t < inner
   pub inner_free : InnerIsFree (view p)
@@ -70,7 +70,7 @@ lost_in [] = 0
 lost_in (x ∷ xs) = cond (is_lost x xs) 1 0 + lost_in xs
 
 -- The steps were looks at the map and tries for slots alone, and each slot below this one was found taken at one of them.
-pub record Passed {X : Type 0} (g : Ground X) (v : View X) (slot : ℕ) (d : Added) (w : View X) : Type 0 where
+pub record Passed {X : Type 0} {says : Bool} (g : GroundOf says X) (v : View X) (slot : ℕ) (d : Added) (w : View X) : Type 0 where
   pub went : Went g v d w
   pub quiet : (d.sights ≡ []) × (d.done ≡ []) × (d.meetings ≡ []) × (d.changed ≡ [])
   pub kinds : All (λ (x : Item). (x.kind ≡ Searched) ⊎ (x.kind ≡ Owned)) d.items
@@ -84,7 +84,7 @@ searched_to tab claim = tab
 
 -- The tab reserved this slot, which was free. There was one look at each word of the map up to its own, and one try beside the lost
 -- ones.
-pub record Claimed {X : Type 0} (g : Ground X) (t : ℕ) (v : View X) (slot : ℕ) (w : View X) : Type 0 where
+pub record Claimed {X : Type 0} {says : Bool} (g : GroundOf says X) (t : ℕ) (v : View X) (slot : ℕ) (w : View X) : Type 0 where
   pub added : Added
   pub passed : Passed g v slot added w
   pub looks : looks_in added.items ≡ slot / 64 + 1
@@ -100,7 +100,7 @@ pub record Claimed {X : Type 0} (g : Ground X) (t : ℕ) (v : View X) (slot : �
 
 -- Every slot was found taken, and none of the tries took one: there was one look at each word of the map, and each try was lost. No
 -- tab has changed but for how far its search has come, and no word of the map.
-pub record FoundAllTaken {X : Type 0} (g : Ground X) (t : ℕ) (v w : View X) : Type 0 where
+pub record FoundAllTaken {X : Type 0} {says : Bool} (g : GroundOf says X) (t : ℕ) (v w : View X) : Type 0 where
   pub added : Added
   pub passed : Passed g v g.setting.slots added w
   pub looks : looks_in added.items ≡ map_words g.setting.slots

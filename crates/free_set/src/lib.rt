@@ -12,7 +12,7 @@ ghost use Rattle.store_rule.specs.Passes.{Made, May, basis, view};
 
 use link_word::{first_clear, is_set, map_words};
 use rock_disk::Cell;
-use store_rule::{Origin, Pass, Store};
+use store_rule::{AnyOrigin, Pass, Store};
 
 /// Every slot was found taken.
 #[derive(Clone, Copy, Debug, PartialEq, Eq)]
@@ -26,7 +26,7 @@ pub struct AllTaken;
 /// # Errors
 ///
 /// Each slot was found taken at a step of this call, and none was reserved.
-pub fn claim<C: Cell, O: Origin>(
+pub fn claim<C: Cell, O: AnyOrigin>(
     store: &Store<C, O>,
     pass: &mut Pass<C>,
     tab: u8,
@@ -57,7 +57,7 @@ pub fn claim<C: Cell, O: Origin>(
 
 /// Gives back a slot that a writing tab reserved and that is not linked, or one that left the chain that the
 /// inner tab frees. A writing tab that gave a slot back reserves and publishes no more.
-pub fn give<C: Cell, O: Origin>(store: &Store<C, O>, pass: &mut Pass<C>, tab: u8, slot: u32)
+pub fn give<C: Cell, O: AnyOrigin>(store: &Store<C, O>, pass: &mut Pass<C>, tab: u8, slot: u32)
     requires { May C.tells C.state O.offers store.now pass.old (Disown tab slot) }
     ensures made { (found : ℕ) × Made C.tells C.state O.offers store.now pass.old (Disown tab slot) found pass.new }
     ensures others { Follows C.tells C.state O.offers store.now tab pass.old pass.new }

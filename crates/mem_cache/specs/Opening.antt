@@ -5,7 +5,7 @@ use Rattle.page_pool.specs.declared.pool.PoolSize.{PoolSize}
 use Rattle.page_pool.specs.declared.view.View.{View}
 use Rattle.store_rule.specs.declared.store.Pass.{Pass}
 use Rattle.store_rule.specs.declared.store.Store.{Store}
-use Rattle.store_rule.specs.Ground.{Offers}
+use Rattle.store_rule.specs.Ground.{OffersOf, offers_over}
 use Rattle.store_rule.specs.Passes.{AreNumbered, HaveOwnPages, IsNewOf, KeepsRoom, basis}
 use Rattle.store_rule.specs.Rebuilding.{IsOpenedWith, none_kept}
 use Rattle.mem_cache.specs.declared.cell.PageCell.{PageCell}
@@ -15,7 +15,7 @@ use Rattle.mem_cache.specs.Cell.{cell_state}
 use Rattle.mem_cache.specs.Pages.{pages_left}
 
 -- An empty store over so many pages, with these numbers and this origin, and its passes, new. Each slot holds the blank content.
-pub record IsMemStore {D O : Type 0} (tells : Bool) (offers : O → Offers) (pages slot anchors passes : ℕ) (origin : O)
+pub record IsMemStore {D O : Type 0} (tells : Bool) {says : Bool} (offers : O → OffersOf says) (pages slot anchors passes : ℕ) (origin : O)
     (s : Store (PageCell D) O) (ps : Vec (Pass (PageCell D))) : Type 0 where
   -- its numbers are those that were asked for
   pub anchors_are : (basis tells cell_state offers s).setting.anchors ≡ anchors
@@ -23,7 +23,7 @@ pub record IsMemStore {D O : Type 0} (tells : Bool) (offers : O → Offers) (pag
   pub passes_are : (basis tells cell_state offers s).setting.passes ≡ passes
   pub slot_is : (basis tells cell_state offers s).slot ≡ slot
   -- its origin is the one that was given
-  pub offers_are : (basis tells cell_state offers s).offers ≡ offers origin
+  pub offers_are : (basis tells cell_state offers s).offers ≡ offers_over tells (offers origin)
   -- each slot holds the blank content
   pub blank : (basis tells cell_state offers s).setting.contents ≡ replicate pages (basis tells cell_state offers s).setting.blank
   -- it began with no entry

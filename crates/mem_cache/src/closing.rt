@@ -8,11 +8,11 @@ ghost use Rattle.mem_cache.specs.Closing.{AreWhole};
 use crate::PageCell;
 use rock_disk::Cell;
 use rock_open::close_store;
-use store_rule::{Origin, Pass, Store};
+use store_rule::{AnyOrigin, Pass, Store};
 
 /// Ends a store over pages, and gives its slots with their pages, in the order of the slots. All its passes are
 /// here, with all tabs free. Each page has what the last write left in it. It is never refused, and takes no memory.
-pub fn close_mem<D: Cell, O: Origin>(
+pub fn close_mem<D: Cell, O: AnyOrigin>(
     store: Store<PageCell<D>, O>,
     passes: Vec<Pass<PageCell<D>>>,
 ) -> Vec<PageCell<D>>

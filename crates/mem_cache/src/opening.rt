@@ -11,7 +11,7 @@ use db_layout::MOST_SLOTS;
 use page_pool::{Pool, PoolSeat};
 use rock_disk::Cell;
 use std::alloc::{AllocError, Global};
-use store_rule::{NoRoom, Origin, Pass, Store};
+use store_rule::{NoRoom, AnyOrigin, Pass, Store};
 use thiserror::Error;
 
 /// Why no store was made over pages.
@@ -72,7 +72,7 @@ fn give_cells<D>(pool: &Pool, seat: &mut PoolSeat, mut cells: Vec<PageCell<D>>)
 ///
 /// [`MemFault::NoPage`] where fewer pages were left than are wanted, and [`MemFault::Memory`] for want of memory. After
 /// either the pages are back: the seat holds what it held.
-pub fn open_mem<D: Cell, O: Origin>(
+pub fn open_mem<D: Cell, O: AnyOrigin>(
     alloc: Global,
     pool: &Pool,
     seat: &mut PoolSeat,

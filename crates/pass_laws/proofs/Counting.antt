@@ -19,7 +19,7 @@ use Rattle.core_model.specs.declared.view.View.{View}
 use Rattle.core_model.specs.Tabs.{stage_held, tab_at}
 use Rattle.core_model.specs.Table.{item_of, kind_of, left_by, place}
 use Rattle.core_model.specs.Trails.{last_find}
-use Rattle.store_rule.specs.Ground.{Ground}
+use Rattle.store_rule.specs.Ground.{GroundOf}
 use Rattle.store_rule.specs.Told.{Steps}
 use Rattle.store_rule.proofs.Moves.{known_of}
 use Rattle.store_rule.specs.Quiet.{AddsNone, CountsNoReader, DoomsNothing}
@@ -56,7 +56,7 @@ taken_doom n version h = absurd (let e = ap doom_of (epoch_of-word_at version 1)
 raised_doom : (n held to : ℕ) → stage_of (epoch_of n) ≡ held → stage_of (epoch_of n) < 7 → to < 7 → doom_of (epoch_of (raised n (to - held))) ≡ 1 → doom_of (epoch_of n) ≡ 1
 raised_doom n held to is low below h = sym (doom_of-raised n (to - held) (omega arith)) ∙ h
 
-module _ {X : Type 0} (g : Ground X) (v w : View X) where
+module _ {X : Type 0} {says : Bool} (g : GroundOf says X) (v w : View X) where
   no_anchor : (o : Option Place) (a : ℕ) → ((b : ℕ) → o ≡ Some (Anchor b) → ⊥) → o ≡ Some (Anchor a) → ⊥
   no_anchor o a none e = none a e
 
@@ -125,7 +125,7 @@ first_item : (P : Item → Type 0) (x : Item) (items trail : List Item) → x �
 first_item P x [] trail e all = absurd (let h = ap (λ (z : List Item). length z) e in omega arith)
 first_item P x (y ∷ ys) trail e all = subst P (sym (ap (λ (z : List Item). get_or z 0 x) e)) (all 0 x (omega arith))
 
-module _ {X : Type 0} (g : Ground X) (v w : View X) (m : Move) (n : ℕ) (st : Steps g v m n w) where
+module _ {X : Type 0} {says : Bool} (g : GroundOf says X) (v w : View X) (m : Move) (n : ℕ) (st : Steps g v m n w) where
   is_else : (kind : Kind) → AddsNone kind v w → kind_of m ≢ kind
   is_else kind h = first_item (λ (x : Item). x.kind ≢ kind) (item_of v m n) h.items v.trail (ap View.trail (sym st.leaves) ∙ h.trail) h.none
 

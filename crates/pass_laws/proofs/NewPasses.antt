@@ -11,14 +11,14 @@ use Rattle.core_model.specs.Tabs.{is_free, tab_at}
 use Rattle.store_rule.specs.declared.store.Pass.{Pass}
 use Rattle.store_rule.specs.declared.store.Store.{Store}
 use Rattle.store_rule.specs.Closing.{IsResting}
-use Rattle.store_rule.specs.Ground.{Offers}
+use Rattle.store_rule.specs.Ground.{OffersOf}
 use Rattle.store_rule.specs.Passes.{IsNewOf, IsOf, basis, hand, view}
 
 -- all tabs of a new pass are free
 new_rests : {C : Type 0} (k : Setting (List ℕ)) (p : Pass C) (n : ℕ) → view p ≡ new_view k n → hand p ≡ [] → IsResting p
 new_rests k p n is places = record { free = λ tab lt. ap (λ (v : View (List ℕ)). is_free (tab_at v tab)) is ∙ ap is_free (get_or-replicate 9 tab Free Free lt); home = places }
 
-module _ {C O : Type 0} (tells : Bool) (cell : C → CellState) (offers : O → Offers) (s : Store C O) where
+module _ {C O : Type 0} (tells : Bool) (cell : C → CellState) {says : Bool} (offers : O → OffersOf says) (s : Store C O) where
   pub all_of : (passes : List (Pass C)) → All (IsNewOf tells cell offers s) passes → All (IsOf tells cell offers s) passes
   all_of passes h k d lt = (h k d lt).own
 

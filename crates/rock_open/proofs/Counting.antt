@@ -7,11 +7,11 @@ use Rattle.closed_counts.specs.declared.counts.SlotCounts.{SlotCounts}
 use Rattle.closed_counts.specs.Counts.{AreWordsOf, closed_anchors, slots_kept}
 use Rattle.cell_places.proofs.CellLists.{same_cells}
 use Rattle.store_rule.specs.Closing.{IsEnded}
-use Rattle.store_rule.specs.Ground.{Ground}
+use Rattle.store_rule.specs.Ground.{GroundOf}
 use Rattle.settled_stores.specs.Settled.{IsSettled}
 use Rattle.rock_open.specs.Closing.{IsCounted}
 
-module _ {C : Type 0} (tells : Bool) (cell : C → CellState) (g : Ground (List ℕ)) (views : List (View (List ℕ))) (words : List ℕ)
+module _ {C : Type 0} (tells : Bool) (cell : C → CellState) {says : Bool} (g : GroundOf says (List ℕ)) (views : List (View (List ℕ))) (words : List ℕ)
     (places : List (Option C)) (e : IsEnded tells cell g views words places) where
   -- the words are those of the state in which the store ended
   pub words_so : (anchors slots : ℕ) → anchors ≡ g.setting.anchors → slots ≡ g.setting.slots

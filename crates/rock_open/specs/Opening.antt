@@ -12,7 +12,7 @@ use Rattle.rock_disk.specs.File.{Files}
 use Rattle.rock_disk.specs.Opened.{HasShape, IsOpened, IsSmall}
 use Rattle.store_rule.specs.declared.store.Pass.{Pass}
 use Rattle.store_rule.specs.declared.store.Store.{Store}
-use Rattle.store_rule.specs.Ground.{Offers}
+use Rattle.store_rule.specs.Ground.{OffersOf, offers_over}
 use Rattle.store_rule.specs.Passes.{AreNumbered, HaveOwnPages, IsNewOf, KeepsRoom, basis}
 use Rattle.store_rule.specs.Rebuilding.{IsOpenedWith, IsRebuildOf}
 use Rattle.store_rule.specs.Setting.{shown}
@@ -68,7 +68,7 @@ FileSays files name slot anchors Failed = Unit {0}
 FileSays files name slot anchors Memory = Unit {0}
 
 -- A store and its passes, new, over these cells, with these numbers and this origin: what a rebuild of the cells kept stands, and all else is free.
-pub record IsStoreOver {C O : Type 0} (tells : Bool) (cell : C → CellState) (offers : O → Offers) (slot anchors passes : ℕ) (origin : O) (cells : List C) (s : Store C O) (ps : Vec (Pass C)) : Type 0 where
+pub record IsStoreOver {C O : Type 0} (tells : Bool) (cell : C → CellState) {says : Bool} (offers : O → OffersOf says) (slot anchors passes : ℕ) (origin : O) (cells : List C) (s : Store C O) (ps : Vec (Pass C)) : Type 0 where
   pub rebuilt : Rebuilt
   pub kept : IsRebuildOf tells cell slot anchors cells rebuilt
   pub opened : IsOpenedWith (basis tells cell offers s) rebuilt
@@ -76,7 +76,7 @@ pub record IsStoreOver {C O : Type 0} (tells : Bool) (cell : C → CellState) (o
   pub slots_are : (basis tells cell offers s).setting.slots ≡ length cells
   pub passes_are : (basis tells cell offers s).setting.passes ≡ passes
   pub slot_is : (basis tells cell offers s).slot ≡ slot
-  pub offers_are : (basis tells cell offers s).offers ≡ offers origin
+  pub offers_are : (basis tells cell offers s).offers ≡ offers_over tells (offers origin)
   pub contents : (basis tells cell offers s).setting.contents ≡ map (λ c. (shown tells cell c).now) cells
   pub many : vec_len ps ≡ passes
   pub new : All (IsNewOf tells cell offers s) ps.items
@@ -86,7 +86,7 @@ pub record IsStoreOver {C O : Type 0} (tells : Bool) (cell : C → CellState) (o
 
 -- The file of this name is out. The store is over cells that are as its slots were, which suffice for the anchors, and this is its header area. A
 -- volume that tells its files has cells that tell what they hold.
-pub record OpensStore {C O : Type 0} (volume_tells tells : Bool) (cell : C → CellState) (offers : O → Offers) (before after : Files) (name : List ℕ) (slot anchors passes : ℕ) (origin : O) (header : C) (s : Store C O) (ps : Vec (Pass C)) : Type 0 where
+pub record OpensStore {C O : Type 0} (volume_tells tells : Bool) (cell : C → CellState) {says : Bool} (offers : O → OffersOf says) (before after : Files) (name : List ℕ) (slot anchors passes : ℕ) (origin : O) (header : C) (s : Store C O) (ps : Vec (Pass C)) : Type 0 where
   pub bytes : ℕ
   pub cells : List C
   pub shape : HasShape slot bytes (cell header) (map cell cells)

@@ -16,7 +16,7 @@ use db_layout::HEADER_BYTES;
 use rock_disk::{Cell, HEADER_NUMBER};
 use rock_io::Octets;
 use settled_stores::closed_stores_are_settled;
-use store_rule::{Origin, Pass, Store};
+use store_rule::{AnyOrigin, Pass, Store};
 
 /// The cells of a store that was closed, in the order of their slots, and what was left in it.
 #[derive(Drop)]
@@ -36,7 +36,7 @@ pub struct Counted<C> {
 /// The answer comes with the whole record of the closing (`Closed`): in one state that keeps the rule the
 /// views of all passes stand, each whole; no tab is in use, and each cell is the one that was home in its
 /// place. The numbers are those of this state. It is never refused, and takes no memory.
-pub fn close_counted<C: Cell, O: Origin>(store: Store<C, O>, passes: Vec<Pass<C>>) -> Counted<C>
+pub fn close_counted<C: Cell, O: AnyOrigin>(store: Store<C, O>, passes: Vec<Pass<C>>) -> Counted<C>
     requires some { 0 < vec_len passes }
     requires all { vec_len passes ≡ (basis C.tells C.state O.offers store).setting.passes }
     requires own { All (IsOf C.tells C.state O.offers store) passes.items }
@@ -59,7 +59,7 @@ pub fn close_counted<C: Cell, O: Origin>(store: Store<C, O>, passes: Vec<Pass<C>
 }
 
 /// Ends a store as [`close_counted`], and gives its cells alone.
-pub fn close_store<C: Cell, O: Origin>(store: Store<C, O>, passes: Vec<Pass<C>>) -> Vec<C>
+pub fn close_store<C: Cell, O: AnyOrigin>(store: Store<C, O>, passes: Vec<Pass<C>>) -> Vec<C>
     requires some { 0 < vec_len passes }
     requires all { vec_len passes ≡ (basis C.tells C.state O.offers store).setting.passes }
     requires own { All (IsOf C.tells C.state O.offers store) passes.items }

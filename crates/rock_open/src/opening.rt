@@ -18,11 +18,11 @@ use rock_disk::{
     opened_slots_are_wide_and_few,
 };
 use std::alloc::Global;
-use store_rule::{NoRoom, Origin, Pass, Store};
+use store_rule::{NoRoom, AnyOrigin, Pass, Store};
 
 /// A file that is open as a store.
 #[derive(Drop)]
-pub struct OpenStore<C: Cell, O: Origin> {
+pub struct OpenStore<C: Cell, O: AnyOrigin> {
     pub store: Store<C, O>,
     /// Its passes, in the order of their numbers.
     pub passes: Vec<Pass<C>>,
@@ -45,7 +45,7 @@ struct Refused<C> {
 type Made<C, O> = (Store<C, O>, Vec<Pass<C>>);
 
 /// The store over these cells, where a rebuild of them kept something.
-fn store_of<C: Cell, O: Origin>(
+fn store_of<C: Cell, O: AnyOrigin>(
     alloc: Global,
     cells: Vec<C>,
     kept: Result<Rebuilt, OpenStoreFault>,
@@ -79,7 +79,7 @@ fn store_of<C: Cell, O: Origin>(
 }
 
 /// Opens a file as a store, where the slot size and the passes are within their limits.
-fn open_within<V: Volume, O: Origin>(
+fn open_within<V: Volume, O: AnyOrigin>(
     alloc: Global,
     volume: &mut V,
     name: &str,
@@ -156,7 +156,7 @@ fn open_within<V: Volume, O: Origin>(
 /// of faults rose, or its station was ended with a count above 0. [`OpenStoreFault::Memory`] may come at
 /// any point. After each refusal the file is back in the volume, as it was or as opening cuts it, and a
 /// station that was made is ended.
-pub fn open_store<V: Volume, O: Origin>(
+pub fn open_store<V: Volume, O: AnyOrigin>(
     alloc: Global,
     volume: &mut V,
     name: &str,

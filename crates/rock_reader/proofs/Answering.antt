@@ -5,9 +5,11 @@ use Rattle.core_model.specs.Tabs.{InnerIsFree, OfReader, has_turn, tab_at}
 use Rattle.core_model.specs.declared.tab.Turn.TheVariants.{NoTurn}
 use Rattle.store_rule.specs.declared.store.Pass.{Pass}
 use Rattle.store_rule.specs.declared.store.Store.{Store}
-use Rattle.store_rule.specs.Ground.{Offers}
+use Rattle.store_rule.specs.Ground.{OffersOf, is_said}
 use Rattle.store_rule.specs.Passes.{basis, view}
 use Rattle.slice_chain.specs.Links.{MayLocate}
+use Rattle.store_rule.proofs.Saying.{when_then}
+use Rattle.rock_reader.specs.Responses.{pieces_of}
 use Rattle.rock_reader.specs.Closing.{MayClose}
 use Rattle.rock_reader.specs.Reading.{IsAtEnd, MayRead, ReadsAs, Standing, StaysOther}
 use Rattle.rock_reader.specs.Wanted.{held_at}
@@ -24,7 +26,7 @@ not_other : (b : Bool) → (b ≡ true → ⊥) → b ≡ false
 not_other true h = absurd (h refl)
 not_other false h = refl
 
-module _ {C O : Type 0} (tells : Bool) (state : C → CellState) (offers : O → Offers) (s : Store C O) (t : ℕ) (p : Pass C) where
+module _ {C O : Type 0} (tells : Bool) (state : C → CellState) {says : Bool} (offers : O → OffersOf says) (s : Store C O) (t : ℕ) (p : Pass C) where
   module _ (e : Standing) (reads : ReadsAs tells state offers s p t e) (bytes : List ℕ) where
     pub ended : OfReader (λ r. (0 < r.place) × (r.slot ≡ None) × (0 < held_at p.desks t)) (tab_at (view p) t) → IsAtEnd tells state offers s t p e bytes bytes p
     ended h = let r = reader_of_tab (λ r. (0 < r.place) × (r.slot ≡ None) × (0 < held_at p.desks t)) (tab_at (view p) t) reads.reader reads.is h in
@@ -32,7 +34,7 @@ module _ {C O : Type 0} (tells : Bool) (state : C → CellState) (offers : O →
           was = not_other e.is_other (λ o. let z = (reads.other o).1 in let y = r.2 in absurd (omega arith));
           going = not_other e.is_halted (λ f. let z = (reads.stopped f).1 in none_some z.slot (sym r.1 ∙ z.knows));
           some = some_place;
-          all = reads.at_end r.1 some_place;
+          all = when_then (is_said says tells) (λ (f : reads.reader.slot ≡ None → 0 < e.place → e.place ≡ pieces_of (basis tells state offers s) e.anchor e.offer). f r.1 some_place) reads.at_end;
           ended = subst (OfReader (λ r. r.slot ≡ None)) (sym reads.is) r.1;
           still = refl;
           same = refl;
@@ -60,7 +62,7 @@ module _ {C O : Type 0} (tells : Bool) (state : C → CellState) (offers : O →
   has_held h = of_reader (λ r. (r.place ≡ 0) ⊎ ((r.slot ≢ None) × (0 < held_at p.desks t))) (λ r. 0 < r.place → 0 < held_at p.desks t) (tab_at (view p) t)
       (λ r o some. ⊎_elim (λ (z : r.place ≡ 0). absurd (omega arith)) (λ (z : (r.slot ≢ None) × (0 < held_at p.desks t)). z.1) o) h
 
-module _ {C O : Type 0} (tells : Bool) (state : C → CellState) (offers : O → Offers) (s : Store C O) (p : Pass C) (t : ℕ) (e : Standing) (reads : ReadsAs tells state offers s p t e) where
+module _ {C O : Type 0} (tells : Bool) (state : C → CellState) {says : Bool} (offers : O → OffersOf says) (s : Store C O) (p : Pass C) (t : ℕ) (e : Standing) (reads : ReadsAs tells state offers s p t e) where
   -- it may go on, and be closed
   pub may_go_on : (room : ℕ) → (basis tells state offers s).slot ≤ room + 40 → MayRead tells state offers s p t room
   may_go_on room le = record {

@@ -17,7 +17,7 @@ use Rattle.core_model.specs.declared.moves.Side.{Side}
 use Rattle.core_model.specs.declared.tab.Tab.{Tab}
 use Rattle.core_model.specs.declared.view.Sight.{Sight}
 use Rattle.core_model.specs.declared.view.View.{View}
-use Rattle.store_rule.specs.Ground.{Ground}
+use Rattle.store_rule.specs.Ground.{GroundOf}
 use Rattle.store_rule.specs.Told.{Steps, found_as}
 use Rattle.core_model.specs.Table.{sights_of}
 use Rattle.store_rule.specs.Calls.{IsFresh}
@@ -80,7 +80,7 @@ key1_start e = cc
 pub offer_start : Side.Offer ≡ Side.Start → ⊥
 offer_start e = cc
 
-module _ {X : Type 0} (g : Ground X) where
+module _ {X : Type 0} {says : Bool} (g : GroundOf says X) where
   pub came_tabs : (v w : View X) (t a n : ℕ) → Steps g v (Enter t a) n w → w.tabs ≡ with_tab v t (entered a (epoch_of n))
   came_tabs v w t a n st = ap View.tabs st.leaves
 

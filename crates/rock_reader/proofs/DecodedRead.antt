@@ -19,11 +19,12 @@ use Rattle.core_model.specs.declared.tab.Cell.{Cell}
 use Rattle.core_model.specs.declared.tab.Reader.{Reader}
 use Rattle.core_model.proofs.Spelling.{one_same}
 use Rattle.store_rule.specs.declared.store.Store.{Store}
-use Rattle.store_rule.specs.Ground.{Ground, Offers, offering_of}
+use Rattle.store_rule.specs.Ground.{GroundOf, OffersOf, offering_of, is_said}
 use Rattle.store_rule.specs.Passes.{basis}
 use Rattle.store_rule.specs.Turns.{new_hold}
 use Rattle.store_rule.proofs.Bounds.{chain_inside}
 use Rattle.slice_chain.specs.Reads.{HoldsPiece}
+use Rattle.store_rule.proofs.Saying.{tells_said, when_said}
 use Rattle.rock_reader.specs.Bodies.{HasUrl}
 use Rattle.rock_reader.specs.Responses as responses
 use Rattle.rock_reader.specs.Responses.{HoldsFile}
@@ -45,7 +46,7 @@ first_inside : (xs : List ℕ) (slots : ℕ) → 0 < slots → ((x : ℕ) → 0 
 first_inside [] slots some_slot h = some_slot
 first_inside (x ∷ xs) slots some_slot h = h x (let o = one_same x in omega arith)
 
-module _ (g : Ground (List ℕ)) (file : HoldsFile g) (anchor offer place slot : ℕ) (img : List ℕ) (wide : length img ≡ g.slot) (low : offer < g.setting.slots) (lt : anchor < g.setting.anchors)
+module _ {says : Bool} (g : GroundOf says (List ℕ)) (file : HoldsFile g) (anchor offer place slot : ℕ) (img : List ℕ) (wide : length img ≡ g.slot) (low : offer < g.setting.slots) (lt : anchor < g.setting.anchors)
     (at : get_elem? (g.chain anchor) place ≡ some slot) (is : get_elem? g.setting.contents slot ≡ some img) where
   abbrev images : List (List ℕ)
   images = g.setting.contents
@@ -96,8 +97,8 @@ module _ (g : Ground (List ℕ)) (file : HoldsFile g) (anchor offer place slot :
           fits = let a = spelled_size (take has.size (payload_of img)) has.key o.entry.url has.size has.spelled in let b = has.spelled.size in let c = length-take has.size (payload_of img) in
               let d = short_payload (drop 40 img) (header_of img).payload_size in let p = sane.payload_to in let w = wide in omega (arith, a, b, c, d)
 
-module _ {C O : Type 0} (tells : Bool) (state : C → CellState) (offers : O → Offers) (s : Store C O) (told : IsTrue tells) (file : HoldsFile (basis tells state offers s)) (sized : (basis tells state offers s).slot < 4294967296) (fit : Fit) where
-  abbrev ground : Ground (List ℕ)
+module _ {C O : Type 0} (tells : Bool) (state : C → CellState) {says : Bool} (offers : O → OffersOf says) (s : Store C O) (told : IsTrue tells) (file : HoldsFile (basis tells state offers s)) (sized : (basis tells state offers s).slot < 4294967296) (fit : Fit) where
+  abbrev ground : GroundOf (is_said says tells) (List ℕ)
   ground = basis tells state offers s
 
   module _ (offer : ℕ) (r : Reader (List ℕ)) (slot : ℕ) (cell : Cell (List ℕ)) (holds : HoldsPiece ground offer r slot cell) (known : KnownRead ground r r.found) (img : List ℕ) (is : img ≡ cell.now) (wide : length img ≡ ground.slot) where
@@ -112,16 +113,16 @@ module _ {C O : Type 0} (tells : Bool) (state : C → CellState) (offers : O →
           link_fits = known.link;
           first = first_inside (chain_of holds.state r.anchor).slots ground.setting.slots (let n = known.place in omega arith) (chain_inside ground holds.state holds.rule r.anchor);
           version_from = omega arith;
-          version_to = known.version new;
+          version_to = when_said (is_said says tells) (tells_said says tells told) known.version new;
           fit = fit;
         }
-        (is ∙ reads.content ∙ image_told tells (offers s.table.shared.key.origin.value) s.table.shared.key.slots s.table.shared.key.slot record { offer = offer; version = r.version; place = r.place; first = first_of (chain_of holds.state r.anchor).slots; next = r.found } told)
+        (is ∙ reads.content ∙ image_told says tells (offers s.table.shared.key.origin.value) s.table.shared.key.slots s.table.shared.key.slot record { offer = offer; version = r.version; place = r.place; first = first_of (chain_of holds.state r.anchor).slots; next = r.found } told)
 
     of_old : offer < ground.setting.slots → ReadsOld (offering_of ground) ground.setting offer r (new_hold slot cell) → Decoded ground r.anchor offer r.place img
     of_old low reads = decoded_old ground file r.anchor offer r.place slot img wide low known.anchor reads.place (reads.content ∙ ap some (sym is))
 
     pub decoded_read : Decoded ground r.anchor offer r.place img
-    decoded_read = by_offer holds.reads
+    decoded_read = by_offer (when_said (is_said says tells) (tells_said says tells told) holds.reads)
       where
         by_offer : Rattle.core_model.specs.Offers.ReadsOffer (offering_of ground) ground.setting holds.state offer r (new_hold slot cell) → Decoded ground r.anchor offer r.place img
         by_offer (inl (low, old, reads)) = of_old low reads

@@ -19,7 +19,7 @@ use Rattle.store_key.specs.Key.{key_of}
 use Rattle.store_key.proofs.KeyFacts.{key_is_bytes, key_is_long}
 use Rattle.entry_cut.specs.Content.{Cut, content, count, header, image, payload, room_of}
 use Rattle.entry_cut.proofs.Images.{header_in_range}
-use Rattle.store_rule.specs.Ground.{Ground, Offers, cut_of, url_of}
+use Rattle.store_rule.specs.Ground.{GroundOf, OffersOf, cut_of, offers_as, url_of}
 use Rattle.store_rule.specs.Setting.{image_in, next_number}
 use Rattle.core_model.specs.declared.tab.Piece.{Piece}
 use Rattle.rock_reader.specs.Bodies.{HasUrl}
@@ -34,10 +34,11 @@ pub record Fit : Type 0 where
       → (0 < length (Rattle.entry_cut.specs.Content.piece (room_of slot) content k)) × (length content ≡ k * room_of slot + length (Rattle.entry_cut.specs.Content.piece (room_of slot) content k))
 
 -- the image of a piece, where cells tell
-pub image_told : (tells : Bool) (o : Offers) (slots slot : ℕ) (p : Piece) → IsTrue tells
-    → image_in tells o slots slot p ≡ image record { slot = slot; url = o.url (p.offer - slots); body = o.body (p.offer - slots); version = p.version; first = p.first } p.place (next_number p.next)
-image_told true o slots slot p told = refl
-image_told false o slots slot p told = absurd (no_truth told)
+pub image_told : (says tells : Bool) (o : OffersOf says) (slots slot : ℕ) (p : Piece) → IsTrue tells
+    → image_in tells o slots slot p ≡ image record { slot = slot; url = (offers_as says tells o).url (p.offer - slots); body = (offers_as says tells o).body (p.offer - slots); version = p.version; first = p.first } p.place (next_number p.next)
+image_told true true o slots slot p told = refl
+image_told false true o slots slot p told = refl
+image_told says false o slots slot p told = absurd (no_truth told)
   where
     no_truth : IsTrue false → ⊥
     no_truth q = cc
@@ -136,7 +137,7 @@ module _ (c : Cut) (k slots : ℕ) (link : Link) (is : IsAbout c k slots link) w
       fronts = ap (λ (n : ℕ). take (32 + length c.url) (take (room_of c.slot) (drop n (content c)))) (ap (λ (n : ℕ). n * room_of c.slot) e ∙ zero-mul (room_of c.slot))
           ∙ take-take (32 + length c.url) (room_of c.slot) (content c) (let s = is.short in omega arith)
 
-module _ (g : Ground (List ℕ)) (anchor offer place version first : ℕ) (link : Link) (img : List ℕ) (wide : length img ≡ g.slot) where
+module _ {says : Bool} (g : GroundOf says (List ℕ)) (anchor offer place version first : ℕ) (link : Link) (img : List ℕ) (wide : length img ≡ g.slot) where
   -- a piece of one of the origin's responses
   pub decoded_new : (high : g.setting.slots ≤ offer) → url_of g offer ≢ [] → IsAbout (cut_of g offer version first) place g.setting.slots link → img ≡ image (cut_of g offer version first) place (next_number link) → Decoded g anchor offer place img
   decoded_new high some_url is same = record {

@@ -1,5 +1,5 @@
 -- A store that was opened with what a rebuild kept holds its file.
-use Rattle.std.proofs.Common.{Contains, List, [], ap, arith, get_or, inl, inr, length, map, refl, replicate, set, subst, suc, sym, zero, ⊎_elim, ◌≡◌, ◌≢◌, ◌⊎◌, ◌∙◌, ◌∷◌, ℕ}
+use Rattle.std.proofs.Common.{Bool, Contains, List, [], ap, arith, get_or, inl, inr, length, map, refl, replicate, set, subst, suc, sym, zero, ⊎_elim, ◌≡◌, ◌≢◌, ◌⊎◌, ◌∙◌, ◌∷◌, ℕ}
 use Rattle.link_word.specs.declared.link.Link.TheVariants.{Last}
 use Rattle.store_key.specs.Anchor.{anchor_of}
 use Rattle.rebuild_model.specs.declared.found.Found.{Found}
@@ -9,7 +9,7 @@ use Rattle.rebuild_model.specs.Rebuilt.{IsRebuilt}
 use Rattle.core_model.specs.Chains.{no_chain}
 use Rattle.core_model.specs.declared.chain.Chain.{Chain}
 use Rattle.core_table.specs.Kept.{opened_chains, placed}
-use Rattle.store_rule.specs.Ground.{Ground}
+use Rattle.store_rule.specs.Ground.{GroundOf}
 use Rattle.store_rule.specs.Rebuilding.{chain_kept}
 use Rattle.rock_reader.specs.Responses.{HoldsFile}
 
@@ -45,7 +45,7 @@ told_of [] f (i, lt, e) = absurd (omega arith)
 told_of (x ∷ es) f (zero, lt, e) = (x, (0, omega arith, refl), e)
 told_of (x ∷ es) f (suc i, lt, e) = let h = told_of es f (i, omega arith, e) in (h.0, in_rest x es h.0 h.1, h.2)
 
-module _ (g : Ground (List ℕ)) (r : Rebuilt) (many : length g.setting.contents ≡ g.setting.slots) (rebuilt : IsRebuilt g.slot g.setting.contents g.setting.anchors r) (chain : g.chain ≡ chain_kept r.winners g.setting.anchors) where
+module _ {says : Bool} (g : GroundOf says (List ℕ)) (r : Rebuilt) (many : length g.setting.contents ≡ g.setting.slots) (rebuilt : IsRebuilt g.slot g.setting.contents g.setting.anchors r) (chain : g.chain ≡ chain_kept r.winners g.setting.anchors) where
   abbrev chain_here : ℕ → Chain
   chain_here a = get_or (opened_chains r.winners g.setting.anchors) a no_chain
 

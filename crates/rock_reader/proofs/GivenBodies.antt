@@ -14,7 +14,7 @@ use Rattle.core_model.specs.declared.tab.Turn.TheVariants.{Has}
 use Rattle.lock_word.specs.Words.{version_limit}
 use Rattle.store_rule.specs.declared.store.Pass.{Pass}
 use Rattle.store_rule.specs.declared.store.Store.{Store}
-use Rattle.store_rule.specs.Ground.{Ground, Offers}
+use Rattle.store_rule.specs.Ground.{GroundOf, OffersOf, is_said}
 use Rattle.tab_states.specs.Desks.{buffer_at}
 use Rattle.store_rule.specs.Passes.{basis, view}
 use Rattle.store_rule.specs.Turns.{new_hold}
@@ -22,6 +22,7 @@ use Rattle.store_rule.proofs.Passing.{pass_of}
 use Rattle.store_rule.specs.Calls.{Follows}
 use Rattle.slice_chain.specs.Reads.{FollowsReading, HasRead}
 use Rattle.slice_chain.proofs.Writing.{buffer_long}
+use Rattle.store_rule.proofs.Saying.{when_then}
 use Rattle.rock_reader.specs.Reading.{Delivered, Gave, LookedAt, ReadsAs, Standing}
 use Rattle.rock_reader.specs.Responses.{HoldsFile}
 use Rattle.rock_reader.specs.Wanted.{held_at}
@@ -32,10 +33,10 @@ use Rattle.rock_reader.proofs.Decoding.{Fit}
 use Rattle.rock_reader.proofs.KnownRead.{KnownRead, known_read}
 use Rattle.rock_reader.proofs.ReadingOn.{anchor2, gave_given, holds, is_reader, known_held, place2, reader_of_tab}
 
-module _ {C O : Type 0} (tells : Bool) (state : C → CellState) (offers : O → Offers) (s : Store C O) (t : ℕ) (p : Pass C) (e : Standing) (reads : ReadsAs tells state offers s p t e) (q : Pass C) (epoch : Epoch) (link : Link)
+module _ {C O : Type 0} (tells : Bool) (state : C → CellState) {says : Bool} (offers : O → OffersOf says) (s : Store C O) (t : ℕ) (p : Pass C) (e : Standing) (reads : ReadsAs tells state offers s p t e) (q : Pass C) (epoch : Epoch) (link : Link)
     (found : LookedAt (basis tells state offers s) t epoch link (view p) (view q)) (follows : Follows tells state offers s t p q) (written : link ≢ NotWritten) (u : Pass C) (cell : Cell (List ℕ)) (has : HasRead tells state offers s t q u cell)
     (reading : FollowsReading tells state offers s t q u) (sized : (basis tells state offers s).slot < 4294967296) (fit : Fit) where
-  abbrev g : Ground (List ℕ)
+  abbrev g : GroundOf (is_said says tells) (List ℕ)
   g = basis tells state offers s
 
   same : has.read.reader ≡ Rattle.rock_reader.proofs.LookedTab.looked_reader reads.reader found.linked.slot link
@@ -49,7 +50,7 @@ module _ {C O : Type 0} (tells : Bool) (state : C → CellState) (offers : O →
     anchor = subst (λ (n : ℕ). n < g.setting.anchors) (sym (ap Reader.anchor same)) k.anchor;
     place = subst (λ (n : ℕ). n < g.setting.slots) (sym (ap Reader.place same)) k.place;
     link = subst (λ (l : Link). link_number l ≤ g.setting.slots + 1) (sym (ap Reader.found same)) k.link;
-    version = subst (λ (n : ℕ). opening_counter g.setting < n → n ≤ version_limit) (sym (ap Reader.version same)) k.version;
+    version = when_then (is_said says tells) (subst (λ (n : ℕ). opening_counter g.setting < n → n ≤ version_limit) (sym (ap Reader.version same))) k.version;
   }
 
   dec : IsTrue tells → HoldsFile g → Decoded g e.anchor e.offer e.place (buffer_at u.desks inner)

@@ -10,7 +10,7 @@ use Rattle.core_model.specs.declared.tab.Tab.{Tab}
 use Rattle.core_model.specs.declared.tab.Tab.TheVariants.{Free}
 use Rattle.core_model.specs.declared.view.View.{View}
 use Rattle.store_rule.specs.declared.store.Pass.{Pass}
-use Rattle.store_rule.specs.Ground.{Ground}
+use Rattle.store_rule.specs.Ground.{GroundOf}
 use Rattle.store_rule.specs.Passes.{view}
 use Rattle.slice_chain.specs.Links.{Located}
 use Rattle.slice_chain.specs.Reads.{ReadSlot}
@@ -27,7 +27,7 @@ module _ {X : Type 0} (t : ℕ) where
   other_tab : (v w : View X) (tab : Tab X) (j : ℕ) → j ≢ t → w.tabs ≡ with_tab v t tab → tab_at w j ≡ tab_at v j
   other_tab v w tab j ne is = ap (λ (xs : List (Tab X)). get_or xs j Free) is ∙ get_or-set_other v.tabs t j tab Free ne
 
-module _ {X : Type 0} (g : Ground X) (t : ℕ) (far : inner ≢ t) where
+module _ {X : Type 0} {says : Bool} (g : GroundOf says X) (t : ℕ) (far : inner ≢ t) where
   located_inner : (slot : ℕ) (v w : View X) → Located g t slot v w → tab_at w inner ≡ tab_at v inner
   located_inner slot v w (inl h) = ap (λ (z : View X). tab_at z inner) h.stays
   located_inner slot v w (inr h) = other_tab t v w _ inner far (ap View.tabs h.start.leaves)

@@ -19,7 +19,7 @@ use Rattle.core_model.specs.declared.view.Sight.{Sight}
 use Rattle.core_model.specs.declared.view.View.{View}
 use Rattle.store_rule.specs.declared.store.Pass.{Pass}
 use Rattle.store_rule.specs.declared.store.Store.{Store}
-use Rattle.store_rule.specs.Ground.{Ground, MayName, Offers, anchor_for}
+use Rattle.store_rule.specs.Ground.{GroundOf, MayName, OffersOf, anchor_for, is_said}
 use Rattle.store_rule.specs.Passes.{IsOf, May, basis, view}
 use Rattle.store_rule.specs.Told.{Steps}
 use Rattle.store_rule.proofs.Passing.{pass_of}
@@ -31,8 +31,8 @@ use Rattle.rock_reader.specs.Closing.{MayPart, Parted}
 use Rattle.rock_reader.specs.Opening.{Came, CameTo, Declined, MayCome, MayJudge, MayOpen, OpenedEntry, Refused, opened}
 use Rattle.rock_reader.proofs.Coming.{came_tabs, entered_else, entered_readable, fresh_on, key_sees, load_tabs, offer_start, parted_sees, step_sees}
 
-module _ {C O : Type 0} (tells : Bool) (state : C → CellState) (offers : O → Offers) (s : Store C O) (t : ℕ) where
-  abbrev g : Ground (List ℕ)
+module _ {C O : Type 0} (tells : Bool) (state : C → CellState) {says : Bool} (offers : O → OffersOf says) (s : Store C O) (t : ℕ) where
+  abbrev g : GroundOf (is_said says tells) (List ℕ)
   g = basis tells state offers s
 
   module _ (p : Pass C) (url : List ℕ) (may : MayCome tells state offers s p t url) where

@@ -19,26 +19,29 @@ use Rattle.core_model.specs.declared.tab.Tab.{Tab}
 use Rattle.core_model.specs.declared.tab.Tab.TheVariants.{Reading}
 use Rattle.core_model.specs.declared.view.View.{View}
 use Rattle.core_model.proofs.Tabs.{tab_there}
-use Rattle.store_rule.specs.Ground.{Ground}
+use Rattle.store_rule.specs.Ground.{GroundOf, When}
 use Rattle.store_rule.proofs.Bounds.{chain_short}
 use Rattle.store_rule.proofs.LinkMoves.{link_of_tab}
 use Rattle.store_rule.proofs.Moves.{known_of}
+use Rattle.core_model.specs.Offers.{OffersStand}
+use Rattle.store_rule.specs.Ground.{offering_of}
+use Rattle.store_rule.proofs.Saying.{when_then}
 use Rattle.rock_reader.specs.Reading.{LookedAt}
 use Rattle.rock_reader.proofs.LookedTab.{at_slot, middle_tab, middle_tabs}
 
 -- its anchor is one of the table, its place is below the number of slots, its link names one of them, and its version may be drawn
-pub record KnownRead {X : Type 0} (g : Ground X) (r : Reader X) (l : Link) : Type 0 where
+pub record KnownRead {X : Type 0} {says : Bool} (g : GroundOf says X) (r : Reader X) (l : Link) : Type 0 where
   pub anchor : r.anchor < g.setting.anchors
   pub place : r.place < g.setting.slots
   pub link : link_number l ≤ g.setting.slots + 1
-  pub version : opening_counter g.setting < r.version → r.version ≤ version_limit
+  pub version : When says (opening_counter g.setting < r.version → r.version ≤ version_limit)
 
 some_number : (l : Link) → l ≢ NotWritten → 0 < link_number l
 some_number NotWritten ne = absurd (ne refl)
 some_number LastLink ne = omega arith
 some_number (Next n) ne = omega arith
 
-module _ {X : Type 0} (g : Ground X) (t : ℕ) (v w : View X) (epoch : Epoch) (link : Link) (pass : IsPass v) (le : t ≤ inner) (r : Reader X) (is : tab_at v t ≡ Reading r) (h : LookedAt g t epoch link v w) (written : link ≢ NotWritten) where
+module _ {X : Type 0} {says : Bool} (g : GroundOf says X) (t : ℕ) (v w : View X) (epoch : Epoch) (link : Link) (pass : IsPass v) (le : t ≤ inner) (r : Reader X) (is : tab_at v t ≡ Reading r) (h : LookedAt g t epoch link v w) (written : link ≢ NotWritten) where
   abbrev m : View X
   m = h.linked.middle
 
@@ -72,6 +75,6 @@ module _ {X : Type 0} (g : Ground X) (t : ℕ) (v w : View X) (epoch : Epoch) (l
     anchor = stands.0;
     place = let a = place_is in let b = chain_short g s1 h.linked.step.rule r.anchor in omega arith;
     link = link_of_tab g s1 h.linked.step.rule h.linked.step.index m h.linked.step.at t h.linked.slot (Reading r1) there1 knows (link_number link) told;
-    version = λ new. subst (λ (n : ℕ). n ≤ version_limit) stands.1.version_is
-        (h.linked.step.rule.offered.new r.anchor stands.0 (let a = place_is in omega arith) (subst (λ (n : ℕ). opening_counter g.setting < n) (sym stands.1.version_is) new)).drawn;
+    version = when_then says (λ (st : OffersStand (offering_of g) g.setting s1) (new : opening_counter g.setting < r.version). subst (λ (n : ℕ). n ≤ version_limit) stands.1.version_is
+        (st.new r.anchor stands.0 (let a = place_is in omega arith) (subst (λ (n : ℕ). opening_counter g.setting < n) (sym stands.1.version_is) new)).drawn) h.linked.step.rule.offered;
   }

@@ -1,5 +1,5 @@
 -- What a reading tab is after it looked at its anchor and at the link of its slot.
-use Rattle.std.proofs.Common.{List, None, Option, Some, ap, arith, cond, get_or, get_or-set_same, inl, inr, set, subst, sym, ◌+◌, ◌-◌, ◌++◌, ◌∷◌, ◌==◌, ◌≡◌, ◌≤◌, ◌∙◌, ℕ}
+use Rattle.std.proofs.Common.{Bool, List, None, Option, Some, ap, arith, cond, get_or, get_or-set_same, inl, inr, set, subst, sym, ◌+◌, ◌-◌, ◌++◌, ◌∷◌, ◌==◌, ◌≡◌, ◌≤◌, ◌∙◌, ℕ}
 use Rattle.std.proofs.lemmas.List.{set-get_or}
 use Rattle.lock_word.specs.Words.{epoch_of}
 use Rattle.lock_word.specs.declared.epoch.Epoch.{Epoch}
@@ -15,7 +15,7 @@ use Rattle.core_model.specs.declared.tab.Tab.TheVariants.{Reading}
 use Rattle.core_model.specs.declared.view.Sight.TheVariants.{Stood}
 use Rattle.core_model.specs.declared.view.View.{View}
 use Rattle.core_model.proofs.FollowsKept.{link_of_number}
-use Rattle.store_rule.specs.Ground.{Ground}
+use Rattle.store_rule.specs.Ground.{GroundOf}
 use Rattle.slice_chain.specs.Links.{Located}
 use Rattle.slice_chain.proofs.Writing.{set_again}
 use Rattle.rock_reader.specs.Reading.{LookedAt}
@@ -35,7 +35,7 @@ module _ {X : Type 0} where
   there : (v : View X) (t : ℕ) (x : Tab X) → IsPass v → t ≤ inner → tab_at v t ≡ x → v.tabs ≡ with_tab v t x
   there v t x pass le is = sym (set-get_or v.tabs t Tab.Free) ∙ ap (set v.tabs t) is
 
-module _ {X : Type 0} (g : Ground X) (t : ℕ) (v w : View X) (epoch : Epoch) (link : Link) (pass : IsPass v) (le : t ≤ inner) (r : Reader X) (is : tab_at v t ≡ Reading r) (h : LookedAt g t epoch link v w) where
+module _ {X : Type 0} {says : Bool} (g : GroundOf says X) (t : ℕ) (v w : View X) (epoch : Epoch) (link : Link) (pass : IsPass v) (le : t ≤ inner) (r : Reader X) (is : tab_at v t ≡ Reading r) (h : LookedAt g t epoch link v w) where
   tabs0 : h.looked.tabs ≡ v.tabs
   tabs0 = ap View.tabs h.look.leaves
 

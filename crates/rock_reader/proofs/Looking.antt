@@ -13,7 +13,7 @@ use Rattle.core_model.specs.declared.view.Sight.{Sight}
 use Rattle.core_model.specs.declared.view.View.{View}
 use Rattle.store_rule.specs.declared.store.Pass.{Pass}
 use Rattle.store_rule.specs.declared.store.Store.{Store}
-use Rattle.store_rule.specs.Ground.{Ground, Offers}
+use Rattle.store_rule.specs.Ground.{GroundOf, OffersOf, is_said}
 use Rattle.store_rule.specs.Passes.{Made, May, basis, view}
 use Rattle.store_rule.specs.Told.{Steps}
 use Rattle.store_rule.proofs.Moves.{not_free, tab_inside}
@@ -42,7 +42,7 @@ module _ {X : Type 0} where
   of_reader P Q (Tab.Last a) f h = absurd h
   of_reader P Q (Tab.Freeing g) f h = absurd h
 
-module _ {X : Type 0} (g : Ground X) (t : ℕ) where
+module _ {X : Type 0} {says : Bool} (g : GroundOf says X) (t : ℕ) where
   located_sees : (slot : ℕ) (v w : View X) (x : Sight) → Located g t slot v w → Contains v.seen x → Contains w.seen x
   located_sees slot v w x (inl h) c = subst (λ (z : View X). Contains z.seen x) (sym h.stays) c
   located_sees slot v w x (inr h) c = step_sees g v w _ _ x h.start c
@@ -53,8 +53,8 @@ module _ {X : Type 0} (g : Ground X) (t : ℕ) where
 no_tab : (t u : ℕ) → None ≡ Some u → u ≡ t
 no_tab t u e = cc
 
-module _ {C O : Type 0} (tells : Bool) (state : C → CellState) (offers : O → Offers) (s : Store C O) (t : ℕ) (p : Pass C) (may : MayLocate tells state offers s p t) (a : ℕ) (at : a ≡ anchor_of (tab_at (view p) t)) where
-  abbrev g : Ground (List ℕ)
+module _ {C O : Type 0} (tells : Bool) (state : C → CellState) {says : Bool} (offers : O → OffersOf says) (s : Store C O) (t : ℕ) (p : Pass C) (may : MayLocate tells state offers s p t) (a : ℕ) (at : a ≡ anchor_of (tab_at (view p) t)) where
+  abbrev g : GroundOf (is_said says tells) (List ℕ)
   g = basis tells state offers s
 
   pub may_look : May tells state offers s p (Look a)

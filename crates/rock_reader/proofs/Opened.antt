@@ -14,7 +14,7 @@ use Rattle.tab_states.specs.declared.desks.Desk.{Desk}
 use Rattle.store_rule.specs.declared.store.Pass.{Pass}
 use Rattle.store_rule.specs.declared.store.Store.{Store}
 use Rattle.tab_states.specs.Desks.{buffer_at, draft_at, with_buffer_at}
-use Rattle.store_rule.specs.Ground.{Ground, Offers, anchor_for}
+use Rattle.store_rule.specs.Ground.{GroundOf, OffersOf, anchor_for, is_said}
 use Rattle.store_rule.specs.Lending.{with_bytes}
 use Rattle.store_rule.specs.Passes.{IsOf, basis, view}
 use Rattle.store_rule.specs.Told.{the_view}
@@ -22,14 +22,15 @@ use Rattle.store_rule.proofs.Drafting.{drafted_own}
 use Rattle.store_rule.proofs.Lending.{lent_own}
 use Rattle.store_rule.proofs.Passing.{pass_of}
 use Rattle.slice_chain.specs.Freeing.{FollowsTab}
+use Rattle.store_rule.proofs.Saying.{when_so}
 use Rattle.rock_reader.specs.Opening.{OpenedEntry, opened}
 use Rattle.rock_reader.specs.Reading.{ReadsAs, newly}
 use Rattle.rock_reader.specs.Wanted.{FollowsReader, KeepsUrl, kept_of}
 use Rattle.rock_reader.proofs.Coming.{load_tabs, offer_start}
 use Rattle.rock_reader.proofs.Desks.{buffer_drafted, buffer_other, draft_lent, draft_other}
 
-module _ {C O : Type 0} (tells : Bool) (state : C → CellState) (offers : O → Offers) (s : Store C O) (t : ℕ) (p : Pass C) where
-  abbrev g : Ground (List ℕ)
+module _ {C O : Type 0} (tells : Bool) (state : C → CellState) {says : Bool} (offers : O → OffersOf says) (s : Store C O) (t : ℕ) (p : Pass C) where
+  abbrev g : GroundOf (is_said says tells) (List ℕ)
   g = basis tells state offers s
 
   -- where nothing was kept
@@ -92,8 +93,8 @@ module _ {C O : Type 0} (tells : Bool) (state : C → CellState) (offers : O →
           version_is = refl;
           place_is = refl;
           offer_seen = subst (λ (xs : List Sight). Contains xs (Named (anchor_for g url) version Offer entry.accepted.offer)) (sym (ap View.seen view_is ∙ seen_is)) (0, omega arith, refl);
-          inside = omega arith;
-          at_end = λ none some. absurd (omega arith);
+          inside = when_so (is_said says tells) (omega arith);
+          at_end = when_so (is_said says tells) (λ none some. absurd (omega arith));
           wanted = λ f. keeps.kept ∙ ap (λ (n : ℕ). kept_of n url) wide;
           held = λ f. let w = keeps.within in omega arith;
           given = λ f some. absurd (omega arith);

@@ -12,7 +12,7 @@ use Rattle.core_model.specs.declared.tab.Tab.{Tab}
 use Rattle.core_model.specs.declared.view.View.{View}
 use Rattle.store_rule.specs.declared.store.Pass.{Pass}
 use Rattle.store_rule.specs.declared.store.Store.{Store}
-use Rattle.store_rule.specs.Ground.{Ground, Offers}
+use Rattle.store_rule.specs.Ground.{GroundOf, OffersOf}
 use Rattle.store_rule.specs.Passes.{IsOf, May, view}
 use Rattle.tab_states.specs.Tabs.{is_last}
 use Rattle.store_rule.specs.Told.{found_as}
@@ -68,7 +68,7 @@ module _ {X : Type 0} where
 must_not_be_done : Left.Done ≡ Left.MustFree → ⊥
 must_not_be_done e = cc
 
-module _ {X : Type 0} (g : Ground X) (t : ℕ) (v : View X) (counted : is_counted (tab_at v t) ≡ true) where
+module _ {X : Type 0} {says : Bool} (g : GroundOf says X) (t : ℕ) (v : View X) (counted : is_counted (tab_at v t) ≡ true) where
   -- as nobody's last user
   gone_tabs : (left : Left) (w : View X) → Gone g v t left w → w.tabs ≡ with_tab v t Tab.Free
   gone_tabs left w h = ap View.tabs h.leave.leaves ∙ (let u = h.used in rw u refl)
@@ -123,7 +123,7 @@ module _ {X : Type 0} (g : Ground X) (t : ℕ) (v : View X) (counted : is_counte
       still : get_or (with_tab v t Tab.Free) inner Tab.Free ≡ Tab.Free
       still = still_by inner_free
 
-module _ {C O : Type 0} (tells : Bool) (state : C → CellState) (offers : O → Offers) (s : Store C O) (p : Pass C) (t : ℕ) where
+module _ {C O : Type 0} (tells : Bool) (state : C → CellState) {says : Bool} (offers : O → OffersOf says) (s : Store C O) (p : Pass C) (t : ℕ) where
   pub may_leave : MayPart tells state offers s p t → May tells state offers s p (Leave t)
   may_leave may = record { own = may.own; can = record { allowed = (let b = may.below in omega arith, may.counted, may.idle); asks = tt } }
 
@@ -157,7 +157,7 @@ module _ {C O : Type 0} (tells : Bool) (state : C → CellState) (offers : O →
     }
 
     -- after it left, where it is to free the entry
-    pub may_free : (may : MayPart tells state offers s p t) (g : Ground (List ℕ)) → Leaves g (view p) t Left.MustFree (view q) → IsOf tells state offers s q → MayFreeChain tells state offers s q
+    pub may_free : (may : MayPart tells state offers s p t) {says : Bool} (g : GroundOf says (List ℕ)) → Leaves g (view p) t Left.MustFree (view q) → IsOf tells state offers s q → MayFreeChain tells state offers s q
     may_free may g h own = let must = must_free g t (view p) may.counted (view q) h in record {
       own = own;
       freer = must.0;

@@ -1,5 +1,5 @@
 -- Where a reading tab is among the pieces of an offer.
-use Rattle.std.proofs.Common.{List, [], arith, drop, inl, inr, length, refl, suc, sym, zero, ◌+◌, ◌∷◌, ◌<◌, ◌≡◌, ◌≤◌, ◌∙◌, ℕ}
+use Rattle.std.proofs.Common.{Bool, List, [], arith, drop, inl, inr, length, refl, suc, sym, zero, ◌+◌, ◌∷◌, ◌<◌, ◌≡◌, ◌≤◌, ◌∙◌, ℕ}
 use mathlib.Core.Option.{some}
 use lib.ListN.{get_elem?}
 use Rattle.std.proofs.lemmas.Bool.{le-ltb, lt-ltb}
@@ -10,7 +10,7 @@ use Rattle.core_model.specs.State.{State}
 use Rattle.core_model.specs.declared.tab.Hold.{Hold}
 use Rattle.core_model.specs.declared.tab.Reader.{Reader}
 use Rattle.core_model.proofs.Spelling.{next_is_not_last}
-use Rattle.store_rule.specs.Ground.{Ground, offering_of}
+use Rattle.store_rule.specs.Ground.{GroundOf, offering_of}
 use Rattle.rock_reader.specs.Responses.{pieces_of}
 
 pub place_inside : (xs : List ℕ) (n x : ℕ) → get_elem? xs n ≡ some x → n < length xs
@@ -24,7 +24,7 @@ link_at_end [] (suc n) le e = absurd (omega arith)
 link_at_end (x ∷ xs) zero le e = absurd (next_is_not_last x e)
 link_at_end (x ∷ xs) (suc n) le e = let h = link_at_end xs n (omega arith) e in omega arith
 
-module _ (g : Ground (List ℕ)) (s : State (List ℕ)) (offer : ℕ) (r : Reader (List ℕ)) (h : Hold (List ℕ)) where
+module _ {says : Bool} (g : GroundOf says (List ℕ)) (s : State (List ℕ)) (offer : ℕ) (r : Reader (List ℕ)) (h : Hold (List ℕ)) where
   -- a tab that reads a slot of an offer is at one of its pieces
   pub piece_inside : ReadsOffer (offering_of g) g.setting s offer r h → r.place < pieces_of g r.anchor offer
   piece_inside (inl (low, old, is)) = let e = lt-ltb offer g.setting.slots low in let n = place_inside (g.chain r.anchor) r.place h.slot is.place in rw e n

@@ -1,5 +1,5 @@
 -- What the slots of a response add to its body, joined, is a front of the body, and all of them the whole.
-use Rattle.std.proofs.Common.{List, [], ap, arith, drop, get_or, length, refl, subst, suc, sym, take, zero, ◌+◌, ◌-◌, ◌*◌, ◌++◌, ◌∷◌, ◌<◌, ◌≡◌, ◌≤◌, ◌^◌, ◌∙◌, ⊎_elim, ℕ}
+use Rattle.std.proofs.Common.{Bool, List, [], ap, arith, drop, get_or, length, refl, subst, suc, sym, take, zero, ◌+◌, ◌-◌, ◌*◌, ◌++◌, ◌∷◌, ◌<◌, ◌≡◌, ◌≤◌, ◌^◌, ◌∙◌, ⊎_elim, ℕ}
 use Rattle.std.proofs.Math.Nat.{le-div_iff_mul-le, suc-mul, zero-mul}
 use Rattle.std.proofs.Math.Numerals.{suc-eq-add-one}
 use Rattle.std.proofs.Math.Seq.{drop-append_seam, take-length}
@@ -14,7 +14,7 @@ use Rattle.store_key.specs.Key.{key_of}
 use Rattle.store_key.proofs.KeyFacts.{key_is_long}
 use Rattle.rebuild_model.specs.Image.{payload_at}
 use Rattle.entry_cut.specs.Content.{Cut, content, content_of, count, payload, piece, room_of, slots_needed}
-use Rattle.store_rule.specs.Ground.{Ground, cut_of}
+use Rattle.store_rule.specs.Ground.{GroundOf, cut_of}
 use Rattle.rock_reader.specs.Responses.{IsOffered, IsOpened, IsResponse, body_below, payload_of, pieces_of}
 use Rattle.rock_reader.proofs.Metadata.{spelled_length}
 
@@ -30,7 +30,7 @@ all_long : (f : ℕ → List ℕ) (n : ℕ) → length (f 0) ≤ length (all_bel
 all_long f zero = omega arith
 all_long f (suc n) = let h = all_long f n in let l = length-append (all_below f (suc n)) (f (suc n)) in omega (arith, l)
 
-module _ (g : Ground (List ℕ)) (anchor offer : ℕ) where
+module _ {says : Bool} (g : GroundOf says (List ℕ)) (anchor offer : ℕ) where
   abbrev f : ℕ → List ℕ
   f = payload_of g anchor offer
 
@@ -76,7 +76,7 @@ all_same f h same (suc n) = λ i. all_same f h same n i ++ same n i
 spelled_inside : (bytes key url : List ℕ) (n : ℕ) → Spells (take n bytes) key url n → n ≤ length bytes
 spelled_inside bytes key url n s = let a = s.size in let b = length-take n bytes in omega (arith, a, b)
 
-module _ (g : Ground (List ℕ)) (anchor offer : ℕ) (url body : List ℕ) (j : Joins) (sized : g.slot < 4294967296) (high : g.setting.slots ≤ offer) (o : IsOffered g anchor offer url body) where
+module _ {says : Bool} (g : GroundOf says (List ℕ)) (anchor offer : ℕ) (url body : List ℕ) (j : Joins) (sized : g.slot < 4294967296) (high : g.setting.slots ≤ offer) (o : IsOffered g anchor offer url body) where
   abbrev c : Cut
   c = cut_of g offer 0 0
 
@@ -143,7 +143,7 @@ slots_joined h chain (suc n) le = ap (λ (xs : List ℕ). xs ++ h (get_or chain 
     ∙ ap (λ (xs : List ℕ). flat_map h (take n chain) ++ xs) (sym (flat_map-cons h (get_or chain n 0) [] ∙ append-nil (h (get_or chain n 0))))
     ∙ sym (flat_map-append h (take n chain) (get_or chain n 0 ∷ [])) ∙ ap (flat_map h) (sym (take_more chain n (omega arith)))
 
-module _ (g : Ground (List ℕ)) (anchor offer : ℕ) (url body : List ℕ) (low : offer < g.setting.slots) (o : IsOpened g anchor offer url body) where
+module _ {says : Bool} (g : GroundOf says (List ℕ)) (anchor offer : ℕ) (url body : List ℕ) (low : offer < g.setting.slots) (o : IsOpened g anchor offer url body) where
   abbrev chain : List ℕ
   chain = g.chain anchor
 
@@ -186,7 +186,7 @@ module _ (g : Ground (List ℕ)) (anchor offer : ℕ) (url body : List ℕ) (low
   pub whole_old : body ≡ body_below g anchor offer (pieces_of g anchor offer)
   whole_old = whole_of g anchor offer inside_old whole body body_old (length chain) some_chain (ap (flat_map h) (sym (take-length chain)) ∙ sym (slots_are (length chain) (omega arith))) ∙ ap (body_below g anchor offer) pieces_old
 
-module _ (g : Ground (List ℕ)) (anchor offer : ℕ) (url body : List ℕ) (j : Joins) (sized : g.slot < 4294967296) (r : IsResponse g anchor offer url body) where
+module _ {says : Bool} (g : GroundOf says (List ℕ)) (anchor offer : ℕ) (url body : List ℕ) (j : Joins) (sized : g.slot < 4294967296) (r : IsResponse g anchor offer url body) where
   pub front_of_body : (places : ℕ) → places ≤ pieces_of g anchor offer → (rest : List ℕ) × (body ≡ body_below g anchor offer places ++ rest)
   front_of_body places le = ⊎_elim (λ (low : offer < g.setting.slots). front_old g anchor offer url body low (r.old low) places (subst (λ (n : ℕ). places ≤ n) (let e = lt-ltb offer g.setting.slots low in rw e refl) le))
       (λ (high : g.setting.slots ≤ offer). front_new g anchor offer url body j sized high (r.new high) places) (cases_lt offer g.setting.slots)

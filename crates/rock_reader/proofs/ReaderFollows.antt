@@ -9,7 +9,7 @@ use Rattle.store_rule.specs.declared.store.Pass.{Pass}
 use Rattle.store_rule.specs.declared.store.Store.{Store}
 use Rattle.store_rule.specs.Drafts.{DraftMoves}
 use Rattle.tab_states.specs.Desks.{buffer_at, draft_at}
-use Rattle.store_rule.specs.Ground.{Offers}
+use Rattle.store_rule.specs.Ground.{OffersOf}
 use Rattle.store_rule.specs.Passes.{IsOf, hand, view}
 use Rattle.store_rule.specs.Told.{the_view}
 use Rattle.store_rule.proofs.Drafting.{drafted_own}
@@ -29,7 +29,7 @@ module _ {C : Type 0} where
   drafted_hand : (t : ℕ) (d : Draft) (p q : Pass C) → DraftMoves t d p q → hand q ≡ hand p
   drafted_hand t d p q m = ap (λ (seat : _). seat.me.1) m.seat
 
-module _ {C O : Type 0} (tells : Bool) (state : C → CellState) (offers : O → Offers) (s : Store C O) (t : ℕ) where
+module _ {C O : Type 0} (tells : Bool) (state : C → CellState) {says : Bool} (offers : O → OffersOf says) (s : Store C O) (t : ℕ) where
   pub follows_looked : (p q : Pass C) → Follows tells state offers s t p q → FollowsReader tells state offers s t p q
   follows_looked p q h = record {
     own = h.own;

@@ -24,7 +24,7 @@ use Rattle.tab_states.specs.declared.desks.Desk.{Desk}
 use Rattle.store_rule.specs.declared.store.Pass.{Pass}
 use Rattle.store_rule.specs.declared.store.Store.{Store}
 use Rattle.tab_states.specs.Desks.{buffer_at, draft_at}
-use Rattle.store_rule.specs.Ground.{Ground, Offers}
+use Rattle.store_rule.specs.Ground.{GroundOf, OffersOf, is_said}
 use Rattle.store_rule.specs.Passes.{IsOf, basis, view}
 use Rattle.core_halts.specs.Halts.{FoundEnd}
 use Rattle.store_rule.specs.Turns.{Lost, new_hold}
@@ -32,6 +32,9 @@ use Rattle.store_rule.proofs.Drafting.{drafted_own}
 use Rattle.store_rule.proofs.Passing.{pass_of}
 use Rattle.store_rule.specs.Calls.{Follows, IsFresh}
 use Rattle.slice_chain.specs.Reads.{FollowsReading, HoldsPiece, MayReadSlot, ReadSlot, went_on}
+use Rattle.core_model.specs.Offers.{ReadsOffer}
+use Rattle.store_rule.specs.Ground.{offering_of}
+use Rattle.store_rule.proofs.Saying.{when_so, when_then}
 use Rattle.rock_reader.specs.Bodies.{HasUrl, IsOfEntry, body_of}
 use Rattle.rock_reader.specs.Reading.{Delivered, Fails, Gave, GaveBody, GaveNone, HasResponse, HasTried, IsPiece, LookedAt, MayRead, ReadsAs, Standing, TurnsOut, Waits, halting, onward, turned}
 use Rattle.rock_reader.specs.Responses.{HoldsFile, IsResponse, pieces_of}
@@ -99,17 +102,17 @@ is_false : (b : Bool) → (b ≡ true → ⊥) → b ≡ false
 is_false true h = absurd (h refl)
 is_false false h = refl
 
-module _ {X : Type 0} (g : Ground X) (t slot : ℕ) (x : Sight) where
+module _ {X : Type 0} {says : Bool} (g : GroundOf says X) (t slot : ℕ) (x : Sight) where
   lost_sees : (v : View X) (us : List (View X)) (w : View X) → Lost g t slot v us w → Contains v.seen x → Contains w.seen x
   lost_sees v [] w e c = subst (λ (z : View X). Contains z.seen x) (sym e) c
   lost_sees v (u ∷ us) w (n, st, ne, before) c = step_sees g u w _ n x st (lost_sees v us u before c)
 
-module _ {X : Type 0} (g : Ground X) (t : ℕ) where
+module _ {X : Type 0} {says : Bool} (g : GroundOf says X) (t : ℕ) where
   pub read_sees : (v w : View X) (done : Bool) (cell : Cell X) (x : Sight) → ReadSlot g t v done cell w → Contains v.seen x → Contains w.seen x
   read_sees v w done cell x h c = step_sees g h.middle w _ 1 x h.ended (step_sees g h.last h.middle _ 0 x h.tried (lost_sees g t h.slot x v h.views h.last h.lost c))
 
-module _ {C O : Type 0} (tells : Bool) (state : C → CellState) (offers : O → Offers) (s : Store C O) (t : ℕ) (p : Pass C) where
-  abbrev g : Ground (List ℕ)
+module _ {C O : Type 0} (tells : Bool) (state : C → CellState) {says : Bool} (offers : O → OffersOf says) (s : Store C O) (t : ℕ) (p : Pass C) where
+  abbrev g : GroundOf (is_said says tells) (List ℕ)
   g = basis tells state offers s
 
   -- the slot may be read once its link was found written
@@ -177,7 +180,7 @@ module _ {C O : Type 0} (tells : Bool) (state : C → CellState) (offers : O →
       place_is = reads.place_is;
       offer_seen = seen1 _ reads.offer_seen;
       inside = reads.inside;
-      at_end = λ none some. absurd (some_none found.linked.slot none);
+      at_end = when_so (is_said says tells) (λ none some. absurd (some_none found.linked.slot none));
       wanted = λ f. kept1 ∙ reads.wanted f;
       held = λ f. subst (λ (n : ℕ). n ≤ g.slot) (sym held1) (reads.held f);
       given = λ f some. let h = reads.given f some in (subst (λ (n : ℕ). 0 < n) (sym held1) h.0, h.1);
@@ -215,7 +218,7 @@ module _ {C O : Type 0} (tells : Bool) (state : C → CellState) (offers : O →
         place_is = reads.place_is;
         offer_seen = seen1 _ reads.offer_seen;
         inside = reads.inside;
-        at_end = λ none some. absurd (some_none found.linked.slot none);
+        at_end = when_so (is_said says tells) (λ none some. absurd (some_none found.linked.slot none));
         wanted = λ f. kept1 ∙ reads.wanted f;
         held = λ f. subst (λ (n : ℕ). n ≤ g.slot) (sym held1) (reads.held f);
         given = λ f some. let h = reads.given f some in (subst (λ (n : ℕ). 0 < n) (sym held1) h.0, h.1);
@@ -292,7 +295,7 @@ module _ {C O : Type 0} (tells : Bool) (state : C → CellState) (offers : O →
           place_is = reads.place_is;
           offer_seen = seen2 written u false cell read reading _ reads.offer_seen;
           inside = reads.inside;
-          at_end = λ none some. absurd (some_none found.linked.slot none);
+          at_end = when_so (is_said says tells) (λ none some. absurd (some_none found.linked.slot none));
           wanted = λ f. kept2 written u false cell read reading ∙ reads.wanted f;
           held = λ f. subst (λ (n : ℕ). n ≤ g.slot) (sym (held2 written u false cell read reading)) (reads.held f);
           given = λ f some. let h = reads.given f some in (subst (λ (n : ℕ). 0 < n) (sym (held2 written u false cell read reading)) h.0, h.1);
@@ -317,13 +320,17 @@ module _ {C O : Type 0} (tells : Bool) (state : C → CellState) (offers : O →
       pub holds : HoldsPiece g e.offer (record read.reader { turn = Has (new_hold read.slot cell) }) read.slot cell
       holds = read.piece e.offer (subst (λ (x : Sight). Contains (view q).seen x) (λ i. Named (sym anchor2 i) (sym version2 i) Offer e.offer) (seen1 _ reads.offer_seen))
 
-      inside2 : e.place < pieces_of g e.anchor e.offer
-      inside2 = subst (λ (z : ℕ × ℕ). z.0 < pieces_of g z.1 e.offer) (λ i. (place2 i, anchor2 i))
-          (piece_inside g holds.state e.offer (record read.reader { turn = Has (new_hold read.slot cell) }) (new_hold read.slot cell) holds.reads)
+      -- of this offer
+      abbrev Reads : Type 0
+      Reads = ReadsOffer (offering_of g) g.setting holds.state e.offer (record read.reader { turn = Has (new_hold read.slot cell) }) (new_hold read.slot cell)
 
-      last2 : link ≡ LastLink → e.place + 1 ≡ pieces_of g e.anchor e.offer
-      last2 h = subst (λ (z : ℕ × ℕ). z.0 + 1 ≡ pieces_of g z.1 e.offer) (λ i. (place2 i, anchor2 i))
-          (piece_last g holds.state e.offer (record read.reader { turn = Has (new_hold read.slot cell) }) (new_hold read.slot cell) holds.reads (ap Reader.found (is_reader written u true cell read reading) ∙ h))
+      inside2 : Reads → e.place < pieces_of g e.anchor e.offer
+      inside2 r = subst (λ (z : ℕ × ℕ). z.0 < pieces_of g z.1 e.offer) (λ i. (place2 i, anchor2 i))
+          (piece_inside g holds.state e.offer (record read.reader { turn = Has (new_hold read.slot cell) }) (new_hold read.slot cell) r)
+
+      last2 : Reads → link ≡ LastLink → e.place + 1 ≡ pieces_of g e.anchor e.offer
+      last2 r h = subst (λ (z : ℕ × ℕ). z.0 + 1 ≡ pieces_of g z.1 e.offer) (λ i. (place2 i, anchor2 i))
+          (piece_last g holds.state e.offer (record read.reader { turn = Has (new_hold read.slot cell) }) (new_hold read.slot cell) r (ap Reader.found (is_reader written u true cell read reading) ∙ h))
 
       module _ (known : 0 < e.place → 0 < held_at p.desks t) (dec : IsTrue tells → HoldsFile g → Decoded g e.anchor e.offer e.place (buffer_at u.desks inner)) where
         -- of the tab one place on, where its URL is kept, or forgotten
@@ -342,8 +349,8 @@ module _ {C O : Type 0} (tells : Bool) (state : C → CellState) (offers : O →
             place_is = ap (λ (n : ℕ). n + 1) reads.place_is ∙ sym pl;
             offer_seen = subst (λ (z : View (List ℕ)). Contains z.seen (Named e'.anchor e'.version Offer e'.offer)) (sym same_view)
                 (subst (λ (x : Sight). Contains (view u).seen x) (λ i. Named (sym a i) (sym v i) Offer (sym o i)) (seen2 written u true cell read reading _ reads.offer_seen));
-            inside = subst (λ (z : ℕ × ℕ × ℕ). z.0 ≤ pieces_of g z.1 z.2) (λ i. (sym pl i, sym a i, sym o i)) (let n = inside2 in omega arith);
-            at_end = λ none some. subst (λ (z : ℕ × ℕ × ℕ). z.0 ≡ pieces_of g z.1 z.2) (λ i. (sym pl i, sym a i, sym o i)) (last2 (last_link link written none));
+            inside = when_then (is_said says tells) (λ (r : Reads). subst (λ (z : ℕ × ℕ × ℕ). z.0 ≤ pieces_of g z.1 z.2) (λ i. (sym pl i, sym a i, sym o i)) (let n = inside2 r in omega arith)) holds.reads;
+            at_end = when_then (is_said says tells) (λ (r : Reads) none some. subst (λ (z : ℕ × ℕ × ℕ). z.0 ≡ pieces_of g z.1 z.2) (λ i. (sym pl i, sym a i, sym o i)) (last2 r (last_link link written none))) holds.reads;
             wanted = wanted;
             held = held;
             given = given;

@@ -1,5 +1,5 @@
 -- A tab whose entry was found given up looks anew, and finds the same: the entry is given up still, and the slot at its place has no link.
-use Rattle.std.proofs.Common.{List, None, Option, Some, ap, get_or, inl, inr, subst, sym, ◌++◌, ◌≡◌, ◌≤◌, ◌∙◌, ℕ}
+use Rattle.std.proofs.Common.{Bool, List, None, Option, Some, ap, get_or, inl, inr, subst, sym, ◌++◌, ◌≡◌, ◌≤◌, ◌∙◌, ℕ}
 use Rattle.std.specs.Prelude.{unwrap_or}
 use Rattle.lock_word.specs.Words.{stage_number, stage_of, version_of}
 use Rattle.lock_word.specs.declared.epoch.Epoch.{Epoch}
@@ -21,7 +21,7 @@ use Rattle.core_model.specs.declared.view.View.{View}
 use Rattle.core_model.proofs.FollowsKept.{link_of_number}
 use Rattle.core_halts.specs.Halts.{FoundEnd, HasEnd, HasHalted}
 use Rattle.core_halts.proofs.Trails.{end_behind, end_halted}
-use Rattle.store_rule.specs.Ground.{Ground}
+use Rattle.store_rule.specs.Ground.{GroundOf}
 use Rattle.store_rule.specs.Told.{Steps}
 use Rattle.store_rule.proofs.HaltedLinks.{end_on, found_halted, found_no_link, halted_on, linked_end, looked_halted}
 use Rattle.slice_chain.specs.Links.{Located}
@@ -34,7 +34,7 @@ same_some m n e = ap (λ (o : Option ℕ). unwrap_or o 0) e
 pub none_some : (n : ℕ) → None ≡ Some n → ⊥
 none_some n e = cc
 
-module _ {X : Type 0} (g : Ground X) (t : ℕ) (v w : View X) (epoch : Epoch) (link : Link) (pass : IsPass v) (le : t ≤ inner) (r : Reader X) (is : tab_at v t ≡ Reading r) (h : LookedAt g t epoch link v w) where
+module _ {X : Type 0} {says : Bool} (g : GroundOf says X) (t : ℕ) (v w : View X) (epoch : Epoch) (link : Link) (pass : IsPass v) (le : t ≤ inner) (r : Reader X) (is : tab_at v t ≡ Reading r) (h : LookedAt g t epoch link v w) where
   look : Steps g v (Look r.anchor) h.word h.looked
   look = subst (λ (x : Tab X). Steps g v (Look (anchor_of x)) h.word h.looked) is h.look
 

@@ -13,7 +13,7 @@ use Rattle.core_model.specs.declared.tab.Tab.TheVariants.{Free, Reading}
 use Rattle.core_model.specs.declared.view.View.{View}
 use Rattle.store_rule.specs.declared.store.Pass.{Pass}
 use Rattle.store_rule.specs.declared.store.Store.{Store}
-use Rattle.store_rule.specs.Ground.{Ground, Offers}
+use Rattle.store_rule.specs.Ground.{GroundOf, OffersOf, is_said}
 use Rattle.store_rule.specs.Passes.{basis, view}
 use Rattle.slice_chain.specs.Links.{Located}
 use Rattle.rock_reader.specs.Reading.{Gave, LookedAt, ReadsAs, Standing}
@@ -25,7 +25,7 @@ use Rattle.rock_reader.proofs.StillHalted.{none_some}
 pub both : (b : Bool) → b ≡ true → b ≡ false → ⊥
 both b e f = let z : true ≡ false = sym e ∙ f in cc
 
-module _ {X : Type 0} (g : Ground X) (t : ℕ) (v : View X) (r : Reader X) (is : tab_at v t ≡ Reading r) (none : r.slot ≡ None) (some : 0 < r.place) where
+module _ {X : Type 0} {says : Bool} (g : GroundOf says X) (t : ℕ) (v : View X) (r : Reader X) (is : tab_at v t ≡ Reading r) (none : r.slot ≡ None) (some : 0 < r.place) where
   -- where a tab has no slot at its place, no link of one was found
   no_link : (epoch : Epoch) (link : Link) (w : View X) → LookedAt g t epoch link v w → ⊥
   no_link epoch link w h = located h.linked.located
@@ -48,10 +48,10 @@ module _ {X : Type 0} (g : Ground X) (t : ℕ) (v : View X) (r : Reader X) (is :
           still : start_slot r (h.linked.slot + 1) ≡ r.slot
           still = ap (λ (b : Bool). cond b (cond (h.linked.slot + 1 == 0) None (Some (h.linked.slot + 1 - 1))) r.slot) (ne_eqb r.place 0 (λ (z : r.place ≡ 0). omega arith))
 
-module _ {C O : Type 0} (tells : Bool) (state : C → CellState) (offers : O → Offers) (s : Store C O) (t : ℕ) (p : Pass C) (e : Standing) (reads : ReadsAs tells state offers s p t e) (before after : List ℕ) (q : Pass C) where
+module _ {C O : Type 0} (tells : Bool) (state : C → CellState) {says : Bool} (offers : O → OffersOf says) (s : Store C O) (t : ℕ) (p : Pass C) (e : Standing) (reads : ReadsAs tells state offers s p t e) (before after : List ℕ) (q : Pass C) where
   -- a tab that was given all is answered so again
   module _ (was : e.is_other ≡ false) (some : 0 < e.place) (ended : OfReader (λ r. r.slot ≡ None) (tab_at (view p) t)) where
-    abbrev g : Ground (List ℕ)
+    abbrev g : GroundOf (is_said says tells) (List ℕ)
     g = basis tells state offers s
 
     never : (epoch : Epoch) (link : Link) (w : View (List ℕ)) → LookedAt g t epoch link (view p) w → ⊥

@@ -24,7 +24,7 @@ use Rattle.core_model.specs.declared.view.Sight.TheVariants.{Published, Stood}
 use Rattle.core_model.specs.declared.view.View.{View}
 use Rattle.core_model.proofs.Tabs.{tab_there}
 use Rattle.core_model.proofs.Telling.{stage_told}
-use Rattle.store_rule.specs.Ground.{Ground, Rule}
+use Rattle.store_rule.specs.Ground.{GroundOf, Rule}
 use Rattle.store_rule.proofs.Moves.{known_of}
 use Rattle.rock_reader.specs.Reading.{LookedAt}
 use Rattle.rock_reader.proofs.LookedTab.{at_slot, linked_seen, middle_seen, middle_tab, middle_tabs}
@@ -37,7 +37,7 @@ behind_all [] (y ∷ ys) n x e none is = cc
 behind_all (z ∷ xs) ys zero x e none is = absurd (omega arith)
 behind_all (z ∷ xs) ys (suc n) x e none is = behind_all xs ys n x (omega arith) none is
 
-module _ {X : Type 0} (g : Ground X) (s : State X) (rule : Rule g s) (a : ℕ) (lt : a < g.setting.anchors) where
+module _ {X : Type 0} {says : Bool} (g : GroundOf says X) (s : State X) (rule : Rule g s) (a : ℕ) (lt : a < g.setting.anchors) where
   -- a closed entry ends with a last link
   closed_ends : stage_of (epoch_of (word s a)) ≡ 3 → (chain_of s a).end ≡ LastLink
   closed_ends closed = (subst (λ (n : ℕ). ChainStands n ((slot_words g.setting s.words).start a) (slot_words g.setting s.words).link (chain_of s a)) (stage_told g.setting s.words a lt ∙ closed) (rule.sound.slots.stand a lt)).closed refl
@@ -63,7 +63,7 @@ two_or_four (suc (suc (suc zero))) a b ne = absurd (ne refl)
 two_or_four (suc (suc (suc (suc zero)))) a b ne = inr refl
 two_or_four (suc (suc (suc (suc (suc n))))) a b ne = absurd (omega arith)
 
-module _ {X : Type 0} (g : Ground X) (t : ℕ) (v w : View X) (epoch : Epoch) (pass : IsPass v) (le : t ≤ inner) (r : Reader X) (is : tab_at v t ≡ Reading r) (h : LookedAt g t epoch NotWritten v w) where
+module _ {X : Type 0} {says : Bool} (g : GroundOf says X) (t : ℕ) (v w : View X) (epoch : Epoch) (pass : IsPass v) (le : t ≤ inner) (r : Reader X) (is : tab_at v t ≡ Reading r) (h : LookedAt g t epoch NotWritten v w) where
   abbrev a : ℕ
   a = r.anchor
 

@@ -5,13 +5,13 @@ use Rattle.core_model.specs.Tabs.{InnerIsFree, OfReader, has_turn, holds_turn, i
 use Rattle.core_model.specs.declared.view.View.{View}
 use Rattle.store_rule.specs.declared.store.Pass.{Pass}
 use Rattle.store_rule.specs.declared.store.Store.{Store}
-use Rattle.store_rule.specs.Ground.{Ground, Offers}
+use Rattle.store_rule.specs.Ground.{GroundOf, OffersOf}
 use Rattle.store_rule.specs.Passes.{IsOf, view}
 use Rattle.rw_anchor.specs.Calls.{Leaves}
 use Rattle.rw_anchor.specs.declared.Left.{Left}
 use Rattle.slice_chain.specs.Freeing.{Freed}
 
-module _ {C O : Type 0} (tells : Bool) (state : C → CellState) (offers : O → Offers) where
+module _ {C O : Type 0} (tells : Bool) (state : C → CellState) {says : Bool} (offers : O → OffersOf says) where
   -- the tab is counted at an anchor and holds no turn, and the inner tab is free or is this one
   pub record MayPart (s : Store C O) (p : Pass C) (t : ℕ) : Type 0 where
     pub own : IsOf tells state offers s p
@@ -27,7 +27,7 @@ module _ {C O : Type 0} (tells : Bool) (state : C → CellState) (offers : O →
     pub inner_free : InnerIsFree (view p)
     pub reads : OfReader (λ r. has_turn r.turn ≡ false) (tab_at (view p) t)
 
-module _ {X : Type 0} (g : Ground X) (t : ℕ) (v w : View X) where
+module _ {X : Type 0} {says : Bool} (g : GroundOf says X) (t : ℕ) (v w : View X) where
   -- it left, and there is nothing that this pass has to free
   pub record LeftBehind : Type 0 where
     pub leaves : Leaves g v t Left.Done w

@@ -17,7 +17,7 @@ use Rattle.core_model.specs.declared.tab.Turn.TheVariants.{NoTurn}
 use Rattle.core_model.specs.declared.view.View.{View}
 use Rattle.store_rule.specs.declared.store.Pass.{Pass}
 use Rattle.store_rule.specs.declared.store.Store.{Store}
-use Rattle.store_rule.specs.Ground.{Ground, MayName, Offers, anchor_for}
+use Rattle.store_rule.specs.Ground.{GroundOf, MayName, OffersOf, anchor_for}
 use Rattle.store_rule.specs.Passes.{IsOf, basis, view}
 use Rattle.store_rule.specs.Told.{Steps}
 use Rattle.store_rule.specs.Calls.{IsFresh}
@@ -29,7 +29,7 @@ abbrev pub opened : {X : Type 0} → (anchor version : ℕ) → Reader X
 opened anchor version = record { anchor = anchor; version = version; place = 0; slot = None; found = NotWritten; turn = NoTurn }
 
 -- The tab is free, and so is the inner one, and the pass may name the anchor of the URL.
-pub record MayOpen {C O : Type 0} (tells : Bool) (state : C → CellState) (offers : O → Offers) (s : Store C O) (p : Pass C) (t : ℕ) (url : List ℕ) : Type 0 where
+pub record MayOpen {C O : Type 0} (tells : Bool) (state : C → CellState) {says : Bool} (offers : O → OffersOf says) (s : Store C O) (p : Pass C) (t : ℕ) (url : List ℕ) : Type 0 where
   pub own : IsOf tells state offers s p
   pub below : t < inner
   pub free : tab_at (view p) t ≡ Free
@@ -37,7 +37,7 @@ pub record MayOpen {C O : Type 0} (tells : Bool) (state : C → CellState) (offe
   pub names : MayName (basis tells state offers s) (view p) (anchor_for (basis tells state offers s) url)
 
 -- The tab is free, and so is the inner one, which may be this one. The pass may name the anchor of the URL.
-pub record MayCome {C O : Type 0} (tells : Bool) (state : C → CellState) (offers : O → Offers) (s : Store C O) (p : Pass C) (t : ℕ) (url : List ℕ) : Type 0 where
+pub record MayCome {C O : Type 0} (tells : Bool) (state : C → CellState) {says : Bool} (offers : O → OffersOf says) (s : Store C O) (p : Pass C) (t : ℕ) (url : List ℕ) : Type 0 where
   pub own : IsOf tells state offers s p
   pub below : t ≤ inner
   pub free : tab_at (view p) t ≡ Free
@@ -45,7 +45,7 @@ pub record MayCome {C O : Type 0} (tells : Bool) (state : C → CellState) (offe
   pub names : MayName (basis tells state offers s) (view p) (anchor_for (basis tells state offers s) url)
 
 -- The tab has just come to an entry, and so far nothing but the epoch of this is known.
-pub record MayJudge {C O : Type 0} (tells : Bool) (state : C → CellState) (offers : O → Offers) (s : Store C O) (p : Pass C) (t : ℕ) (epoch : Epoch) : Type 0 where
+pub record MayJudge {C O : Type 0} (tells : Bool) (state : C → CellState) {says : Bool} (offers : O → OffersOf says) (s : Store C O) (p : Pass C) (t : ℕ) (epoch : Epoch) : Type 0 where
   pub own : IsOf tells state offers s p
   pub below : t ≤ inner
   pub inner_free : InnerIsFree (view p) ⊎ (t ≡ inner)
@@ -53,7 +53,7 @@ pub record MayJudge {C O : Type 0} (tells : Bool) (state : C → CellState) (off
   pub is : tab_at (view p) t ≡ Reading (opened anchor epoch.version)
   pub readable : IsReadable epoch
 
-module _ {X : Type 0} (g : Ground X) (t : ℕ) (wanted : List ℕ) (epoch : Epoch) (v : View X) where
+module _ {X : Type 0} {says : Bool} (g : GroundOf says X) (t : ℕ) (wanted : List ℕ) (epoch : Epoch) (v : View X) where
   -- the key kept for the version was loaded, which is the wanted one, and then the offer
   pub record Accepted (version : ℕ) (w : View X) : Type 0 where
     pub version_is : version ≡ epoch.version
@@ -71,7 +71,7 @@ module _ {X : Type 0} (g : Ground X) (t : ℕ) (wanted : List ℕ) (epoch : Epoc
     pub cause_is : cause_of epoch key wanted ≡ Some cause
     pub parted : Parted g t keyed w
 
-module _ {X : Type 0} (g : Ground X) (t : ℕ) (url : List ℕ) (v : View X) where
+module _ {X : Type 0} {says : Bool} (g : GroundOf says X) (t : ℕ) (url : List ℕ) (v : View X) where
   -- The first step of a call counted the tab at the anchor of the URL and found this epoch there, which is not older than what the pass had
   -- seen there.
   pub record Came (epoch : Epoch) (entered w : View X) : Type 0 where

@@ -19,7 +19,7 @@ use Rattle.core_model.specs.declared.view.View.{View}
 use Rattle.core_halts.specs.Halts.{FoundEnd}
 use Rattle.store_rule.specs.declared.store.Pass.{Pass}
 use Rattle.store_rule.specs.declared.store.Store.{Store}
-use Rattle.store_rule.specs.Ground.{Ground, Offers}
+use Rattle.store_rule.specs.Ground.{GroundOf, OffersOf, When, is_said}
 use Rattle.store_rule.specs.Drafts.{DraftMoves}
 use Rattle.tab_states.specs.Desks.{buffer_at, draft_at}
 use Rattle.store_rule.specs.Passes.{IsOf, basis, view}
@@ -73,12 +73,13 @@ pub record HasStopped {X : Type 0} (e : Standing) (r : Reader X) (v : View X) : 
   pub knows : r.slot ≡ Some slot
   pub found : FoundEnd v e.anchor e.version slot
 
-module _ {C O : Type 0} (tells : Bool) (state : C → CellState) (offers : O → Offers) where
+module _ {C O : Type 0} (tells : Bool) (state : C → CellState) {says : Bool} (offers : O → OffersOf says) where
   -- Where cells tell and the opening's entries were complete, the offer has a response under the wanted URL.
   abbrev pub HasResponse : Store C O → Standing → Type 0
   HasResponse s e = IsTrue tells → HoldsFile (basis tells state offers s) → (body : List ℕ) × IsResponse (basis tells state offers s) e.anchor e.offer e.url body
 
-  -- The tab reads so. The bytes that it was given since it was opened are `body_below` of its anchor, offer and place.
+  -- The tab reads so. The bytes that it was given since it was opened are `body_below` of its anchor, offer and place. How many slots the entry has
+  -- is said where it is known what is offered.
   pub record ReadsAs (s : Store C O) (p : Pass C) (t : ℕ) (e : Standing) : Type 0 where
     pub own : IsOf tells state offers s p
     pub below : t < inner
@@ -89,8 +90,8 @@ module _ {C O : Type 0} (tells : Bool) (state : C → CellState) (offers : O →
     pub version_is : reader.version ≡ e.version
     pub place_is : reader.place ≡ e.place
     pub offer_seen : Contains (view p).seen (Named e.anchor e.version Offer e.offer)
-    pub inside : e.place ≤ pieces_of (basis tells state offers s) e.anchor e.offer
-    pub at_end : reader.slot ≡ None → 0 < e.place → e.place ≡ pieces_of (basis tells state offers s) e.anchor e.offer
+    pub inside : When (is_said says tells) (e.place ≤ pieces_of (basis tells state offers s) e.anchor e.offer)
+    pub at_end : When (is_said says tells) (reader.slot ≡ None → 0 < e.place → e.place ≡ pieces_of (basis tells state offers s) e.anchor e.offer)
     pub wanted : e.is_other ≡ false → kept_at p.desks t ≡ kept_of (basis tells state offers s).slot e.url
     pub held : e.is_other ≡ false → held_at p.desks t ≤ (basis tells state offers s).slot
     pub given : e.is_other ≡ false → 0 < e.place → (0 < held_at p.desks t) × HasResponse s e
@@ -105,7 +106,7 @@ module _ {C O : Type 0} (tells : Bool) (state : C → CellState) (offers : O →
     pub held : held_at p.desks t ≤ (basis tells state offers s).slot
     pub enough : (basis tells state offers s).slot ≤ room + HEADER_SIZE
 
-module _ {X : Type 0} (g : Ground X) (t : ℕ) where
+module _ {X : Type 0} {says : Bool} (g : GroundOf says X) (t : ℕ) where
   -- the anchor of the tab was looked at, and then the link of the slot at its place
   pub record LookedAt (epoch : Epoch) (link : Link) (v w : View X) : Type 0 where
     pub word : ℕ
@@ -133,8 +134,8 @@ Delivered t slots place p before after q (Piece count) = GaveBody t slots place 
 Delivered t slots place p before after q OtherUrl = GaveNone t slots place p before after q
 Delivered t slots place p before after q _ = ⊥
 
-module _ {C O : Type 0} (tells : Bool) (state : C → CellState) (offers : O → Offers) (s : Store C O) (t : ℕ) (p : Pass C) (e : Standing) (before after : List ℕ) (q : Pass C) where
-  abbrev g : Ground (List ℕ)
+module _ {C O : Type 0} (tells : Bool) (state : C → CellState) {says : Bool} (offers : O → OffersOf says) (s : Store C O) (t : ℕ) (p : Pass C) (e : Standing) (before after : List ℕ) (q : Pass C) where
+  abbrev g : GroundOf (is_said says tells) (List ℕ)
   g = basis tells state offers s
 
   -- No slot was found before that is of another entry, and the link at its place was found not written, behind a look that found this epoch.
@@ -202,13 +203,13 @@ module _ {C O : Type 0} (tells : Bool) (state : C → CellState) (offers : O →
     pub still : q ≡ p
     pub same : after ≡ before
 
-  -- All slots of the offer's response were given, and nothing is done. The tab has no slot at its place, so each later call comes to
+  -- All slots of the entry were given, which where it is known what is offered are those of the offer's response, and nothing is done. The tab has no slot at its place, so each later call comes to
   -- this too.
   pub record IsAtEnd : Type 0 where
     pub was : e.is_other ≡ false
     pub going : e.is_halted ≡ false
     pub some : 0 < e.place
-    pub all : e.place ≡ pieces_of g e.anchor e.offer
+    pub all : When (is_said says tells) (e.place ≡ pieces_of g e.anchor e.offer)
     pub ended : OfReader (λ r. r.slot ≡ None) (tab_at (view p) t)
     pub still : q ≡ p
     pub same : after ≡ before

@@ -1,14 +1,14 @@
 -- The responses that entries hold: what each of their slots adds to a body.
-use Rattle.std.specs.Prelude.{List, [], cond, drop, length, nat_lt, slice_index, suc, zero, ◌++◌, ◌-◌, ◌<◌, ◌≡◌, ◌≢◌, ◌≤◌, ℕ}
+use Rattle.std.specs.Prelude.{Bool, List, [], cond, drop, length, nat_lt, slice_index, suc, zero, ◌++◌, ◌-◌, ◌<◌, ◌≡◌, ◌≢◌, ◌≤◌, ℕ}
 use Rattle.swap_meta.specs.Meta.{whole_length}
 use Rattle.rebuild_model.specs.Entry.{Entry, IsComplete}
 use Rattle.rebuild_model.specs.Image.{payload_at}
 use Rattle.entry_cut.specs.Content.{LeavesRoom, count, payload}
-use Rattle.store_rule.specs.Ground.{Ground, cut_of, url_of}
+use Rattle.store_rule.specs.Ground.{GroundOf, cut_of, url_of}
 
 -- An offer below the number of slots is an entry of the opening, whose slots are those that its anchor had then. Any other is one of the
 -- origin's responses, which is cut into pieces.
-module _ (g : Ground (List ℕ)) (anchor offer : ℕ) where
+module _ {says : Bool} (g : GroundOf says (List ℕ)) (anchor offer : ℕ) where
   -- how many slots the entry of the offer has when it is whole
   abbrev pub pieces_of : ℕ
   pieces_of = cond (nat_lt offer g.setting.slots) (length (g.chain anchor)) (count (cut_of g offer 0 0))
@@ -47,6 +47,6 @@ module _ (g : Ground (List ℕ)) (anchor offer : ℕ) where
     pub new : g.setting.slots ≤ offer → IsOffered url body
 
 -- each anchor that had slots at the opening had those of a complete entry of the file
-pub record HoldsFile (g : Ground (List ℕ)) : Type 0 where
+pub record HoldsFile {says : Bool} (g : GroundOf says (List ℕ)) : Type 0 where
   pub as_many : length g.setting.contents ≡ g.setting.slots
   pub complete : (a : ℕ) → a < g.setting.anchors → g.chain a ≢ [] → (e : Entry) × IsComplete g.slot g.setting.contents e × (e.chain ≡ g.chain a)

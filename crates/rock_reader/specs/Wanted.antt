@@ -8,7 +8,7 @@ use Rattle.tab_states.specs.declared.desks.Desk.{Desk}
 use Rattle.store_rule.specs.declared.store.Pass.{Pass}
 use Rattle.store_rule.specs.declared.store.Store.{Store}
 use Rattle.tab_states.specs.Desks.{buffer_at, draft_at, with_buffer_at, with_draft_at}
-use Rattle.store_rule.specs.Ground.{Offers}
+use Rattle.store_rule.specs.Ground.{OffersOf}
 use Rattle.store_rule.specs.Passes.{IsOf, hand, view}
 use Rattle.store_rule.specs.Calls.{Others}
 
@@ -42,7 +42,7 @@ abbrev pub SameDesk : List Desk → List Desk → ℕ → Type 0
 SameDesk old new j = (buffer_at new j ≡ buffer_at old j) × (draft_at new j ≡ draft_at old j)
 
 -- The pass is of the store still, and all but this tab, the inner one and what they work on is as it was.
-pub record FollowsReader {C O : Type 0} (tells : Bool) (state : C → CellState) (offers : O → Offers) (s : Store C O) (t : ℕ) (p q : Pass C) : Type 0 where
+pub record FollowsReader {C O : Type 0} (tells : Bool) (state : C → CellState) {says : Bool} (offers : O → OffersOf says) (s : Store C O) (t : ℕ) (p q : Pass C) : Type 0 where
   pub own : IsOf tells state offers s q
   pub others : Others t (view p) (view q)
   pub left : (j : ℕ) → j ≢ t → j ≢ inner → slice_index q.left j ≡ slice_index p.left j

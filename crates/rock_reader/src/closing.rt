@@ -10,11 +10,11 @@ ghost use Rattle.store_rule.specs.Passes.{basis, view};
 use rock_disk::Cell;
 use rw_anchor::{Left, leave};
 use slice_chain::free_chain;
-use store_rule::{Origin, Pass, Store};
+use store_rule::{AnyOrigin, Pass, Store};
 
 /// Closes the entry that a tab reads, and frees the tab. The last user of an entry that is halted, or closed
 /// and doomed, has its slots given back, unless another pass comes first.
-pub fn close_entry<C: Cell, O: Origin>(store: &Store<C, O>, pass: &mut Pass<C>, tab: u8)
+pub fn close_entry<C: Cell, O: AnyOrigin>(store: &Store<C, O>, pass: &mut Pass<C>, tab: u8)
     requires { MayClose C.tells C.state O.offers store.now pass.old tab }
     ensures parted { Parted (basis C.tells C.state O.offers store.now) tab (view pass.old) (view pass.new) }
     ensures free { (view pass.new).tabs ≡ with_tab (view pass.old) tab Free }
@@ -26,7 +26,7 @@ pub fn close_entry<C: Cell, O: Origin>(store: &Store<C, O>, pass: &mut Pass<C>, 
 
 /// A tab that is counted at an anchor leaves it, and where it is the last user of an entry that nobody may
 /// read any more, the slots of that entry are given back. It may be the inner tab.
-pub fn part<C: Cell, O: Origin>(store: &Store<C, O>, pass: &mut Pass<C>, tab: u8)
+pub fn part<C: Cell, O: AnyOrigin>(store: &Store<C, O>, pass: &mut Pass<C>, tab: u8)
     requires { MayPart C.tells C.state O.offers store.now pass.old tab }
     ensures parted { Parted (basis C.tells C.state O.offers store.now) tab (view pass.old) (view pass.new) }
     ensures free { (view pass.new).tabs ≡ with_tab (view pass.old) tab Free }

@@ -16,7 +16,7 @@ use rock_disk::Cell;
 use rw_anchor::share;
 use slice_chain::entry_key;
 use store_key::{anchor_of, key_of};
-use store_rule::{Origin, Pass, Store};
+use store_rule::{AnyOrigin, Pass, Store};
 
 /// A free tab comes to the entry with the key of a URL, which can be read, and is counted there. Answers the epoch that
 /// was found. The tab reads the entry from its first slot on, and is to leave it by `part` or `close_entry`. It may be
@@ -26,7 +26,7 @@ use store_rule::{Origin, Pass, Store};
 ///
 /// Why there is no entry with this key to read, with the epoch that was found, which is not older than any that the
 /// pass has seen at its anchor. The tab is free again.
-pub fn come<C: Cell, O: Origin>(
+pub fn come<C: Cell, O: AnyOrigin>(
     store: &Store<C, O>,
     pass: &mut Pass<C>,
     tab: u8,
@@ -54,7 +54,7 @@ pub fn come<C: Cell, O: Origin>(
 }
 
 // Looks whether the entry that a tab has come to has the wanted key. If not the tab leaves it.
-fn judge<C: Cell, O: Origin>(
+fn judge<C: Cell, O: AnyOrigin>(
     store: &Store<C, O>,
     pass: &mut Pass<C>,
     tab: u8,

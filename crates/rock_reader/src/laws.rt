@@ -15,7 +15,7 @@ ghost use Rattle.store_rule.specs.declared.store.Store.{Store};
 
 use entry_cut::pieces_make_the_content;
 use rock_disk::Cell;
-use store_rule::{Origin, Store};
+use store_rule::{AnyOrigin, Store};
 
 /// What a tab was given of a response is a front of its body, and at its last slot the whole. The size of a
 /// slot has 32 bits.
@@ -36,7 +36,7 @@ pub fn opened_stores_hold_their_files()
 
 /// A tab that reads an entry may read on, where there is room for what a slot may add to a body, and be
 /// closed, where the inner tab is free.
-pub fn reading_tabs_may_go_on<C: Cell, O: Origin>()
+pub fn reading_tabs_may_go_on<C: Cell, O: AnyOrigin>()
     ensures more { (store : Store C O) (pass : Pass C) (tab room : ℕ) (e : Standing) → ReadsAs C.tells C.state O.offers store pass tab e
         → (basis C.tells C.state O.offers store).slot ≤ room + HEADER_SIZE → MayRead C.tells C.state O.offers store pass tab room }
     ensures close { (store : Store C O) (pass : Pass C) (tab : ℕ) (e : Standing) → ReadsAs C.tells C.state O.offers store pass tab e
@@ -44,7 +44,7 @@ pub fn reading_tabs_may_go_on<C: Cell, O: Origin>()
 {}
 
 /// The size of a slot has 32 bits.
-pub(crate) fn slots_are_small<C: Cell, O: Origin>(store: &Store<C, O>)
+pub(crate) fn slots_are_small<C: Cell, O: AnyOrigin>(store: &Store<C, O>)
     ensures { (basis C.tells C.state O.offers store.now).slot < 4294967296 }
 {
     let _size = store.slot_size();

@@ -14,7 +14,7 @@ use crate::wanted::keep_url;
 use lock_word::Cause;
 use rock_disk::Cell;
 use slice_chain::entry_offer;
-use store_rule::{Origin, Pass, Store};
+use store_rule::{AnyOrigin, Pass, Store};
 
 /// Opens the entry of a URL for a free tab, and answers its version. The tab reads it from its first slot on,
 /// and is to be closed. Its buffer then has the URL, which is compared with that of the entry when the first
@@ -24,7 +24,7 @@ use store_rule::{Origin, Pass, Store};
 ///
 /// Why there is no entry of this URL to read, with the epoch that was found, which is not older than any that
 /// the pass has seen at its anchor. The tab is free again.
-pub fn open_entry<C: Cell, O: Origin>(
+pub fn open_entry<C: Cell, O: AnyOrigin>(
     store: &Store<C, O>,
     pass: &mut Pass<C>,
     tab: u8,

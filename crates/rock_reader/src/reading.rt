@@ -26,7 +26,7 @@ use rock_disk::{Cell, Station};
 use rw_anchor::look;
 use slice_chain::{link, read_slot};
 use std::sync::Wait;
-use store_rule::{Origin, Pass, Store};
+use store_rule::{AnyOrigin, Pass, Store};
 
 /// What is known of a reading tab before it reads on.
 #[derive(Clone, Copy, Debug, PartialEq, Eq)]
@@ -51,7 +51,7 @@ struct Found {
 ///
 /// It looks at the anchor first, and then at the link of the slot. It waits for the turn at one cell, and for
 /// nothing else. Once it has answered that the writer gave up, each later call finds so again.
-pub fn more<R: Wait, C: Cell, O: Origin, St: Station<C = C>>(
+pub fn more<R: Wait, C: Cell, O: AnyOrigin, St: Station<C = C>>(
     rt: &R,
     store: &Store<C, O>,
     pass: &mut Pass<C>,
@@ -100,7 +100,7 @@ fn known_of<C>(pass: &Pass<C>, tab: u8) -> Known
 }
 
 // Looks at the anchor of a reading tab, and then at the link of the slot at its place.
-fn look_on<C: Cell, O: Origin>(store: &Store<C, O>, pass: &mut Pass<C>, tab: u8) -> Found
+fn look_on<C: Cell, O: AnyOrigin>(store: &Store<C, O>, pass: &mut Pass<C>, tab: u8) -> Found
     requires { MayLocate C.tells C.state O.offers store.now pass.old tab }
     ensures found { LookedAt (basis C.tells C.state O.offers store.now) tab result.epoch result.link (view pass.old) (view pass.new) }
     ensures fresh { IsFresh (anchor_of (tab_at (view pass.old) tab)) (epoch_number result.epoch) (view pass.old) (view pass.new) }
@@ -117,7 +117,7 @@ fn look_on<C: Cell, O: Origin>(store: &Store<C, O>, pass: &mut Pass<C>, tab: u8)
 }
 
 // Reads on where the tab has a slot at its place, if that is published.
-fn read_on<R: Wait, C: Cell, O: Origin, St: Station<C = C>>(
+fn read_on<R: Wait, C: Cell, O: AnyOrigin, St: Station<C = C>>(
     rt: &R,
     store: &Store<C, O>,
     pass: &mut Pass<C>,
@@ -177,7 +177,7 @@ fn unwritten(epoch: Epoch) -> More
 
 // Gives what the slot that was read adds to the body. Where it is not of the wanted entry, the tab wants
 // nothing any more.
-fn give<C: Cell, O: Origin>(
+fn give<C: Cell, O: AnyOrigin>(
     store: &Store<C, O>,
     pass: &mut Pass<C>,
     tab: u8,

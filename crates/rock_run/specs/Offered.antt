@@ -1,5 +1,5 @@
 -- What the lines of a script offer to a store.
-use Rattle.std.specs.Prelude.{◌&&◌, ◌+◌, ◌==◌, ◌≡◌, ◌∷◌, List, None, Option, Some, [], find, if◌then◌else◌, length, max, min, nat_le, option_and_then, true, ℕ}
+use Rattle.std.specs.Prelude.{◌&&◌, ◌+◌, ◌==◌, ◌≡◌, ◌∷◌, List, None, Option, Some, [], find, if◌then◌else◌, length, max, min, nat_le, option_and_then, ℕ}
 use Rattle.std.specs.Option.{option_map_or}
 use Rattle.script_text.specs.Shapes.{Shape, shape_of}
 use Rattle.script_text.specs.declared.body.Body.{Body}
@@ -55,7 +55,6 @@ offers_of lines = record {
   body = λ number. option_map_or (λ response. bytes_of response.body) (offered_by lines number) [];
   alone = λ anchors anchor. leaves_to anchors anchor lines;
   need = λ anchors slot anchor. most_taken anchors slot anchor lines;
-  told = true;
 }
 
 -- What is offered are these lines, whatever anchors are left to whom.

@@ -1,5 +1,5 @@
 -- An anchor is taken for a new entry, and the entry named.
-use Rattle.std.proofs.Common.{Bool, List, None, Some, [], ap, arith, eq-eqb, false, get_or, get_or-set_other, get_or-set_same, inl, inr, length, length-set, refl, set, subst, sym, true, ◌+◌, ◌<◌, ◌≡◌, ◌≤◌, ◌⊎◌, ◌∙◌, ⊎_elim, ℕ}
+use Rattle.std.proofs.Common.{cond, Bool, List, None, Some, [], ap, arith, eq-eqb, false, get_or, get_or-set_other, get_or-set_same, inl, inr, length, length-set, refl, set, subst, sym, true, ◌+◌, ◌<◌, ◌≡◌, ◌≤◌, ◌⊎◌, ◌∙◌, ⊎_elim, ℕ}
 use Rattle.std.proofs.lemmas.Bool.{false≢true}
 use Rattle.lock_word.proofs.Testing.{vacant-idle}
 use Rattle.lock_word.specs.Words.{epoch_of, is_idle, is_vacant}
@@ -22,7 +22,7 @@ use Rattle.core_model.proofs.AnchorKinds.{sees_now}
 use Rattle.link_word.specs.declared.link.Link.TheVariants.{NotWritten}
 use Rattle.store_rule.specs.declared.store.Pass.{Pass}
 use Rattle.store_rule.specs.declared.store.Store.{Store}
-use Rattle.store_rule.specs.Ground.{Ground, IsOfferFor, Offers, anchor_for, url_of}
+use Rattle.store_rule.specs.Ground.{GroundOf, IsOfferFor, IsUrlFor, OffersOf, anchor_for, is_said, url_of}
 use Rattle.store_rule.specs.Passes.{IsOf, May, basis, view}
 use Rattle.store_rule.specs.Told.{Steps}
 use Rattle.store_rule.proofs.Passing.{pass_of}
@@ -32,10 +32,12 @@ use Rattle.slice_chain.specs.Freeing.{Freed}
 use Rattle.slice_chain.specs.Names.{MayNameEntry, Named}
 use Rattle.rock_writer.specs.Beginning.{IsTooLong, MayBegin, MayClear, MayTakeAnchor, TookAnchor, WasIdle, WasVacant, begun}
 use Rattle.rock_writer.specs.Entries.{Drafts, WritesAs, writer_as}
+use Rattle.store_rule.proofs.Saying.{when_then}
+use Rattle.rock_writer.proofs.Offered.{named_by}
 use Rattle.rock_writer.proofs.Resting.{inner_now, nine_now, tab_now}
 use Rattle.rock_writer.proofs.Seeing.{Grows, grows_on, grows_step}
 
-module _ {X : Type 0} (g : Ground X) where
+module _ {X : Type 0} {says : Bool} (g : GroundOf says X) where
   pub grows_drew : (v w : View X) (version : ℕ) → Drew g v version w → Grows v w
   grows_drew v w version d = grows_on v d.middle w (grows_step g v d.middle _ d.counted d.look) (grows_step g d.middle w _ d.found d.draw)
 
@@ -61,9 +63,9 @@ not_idle n v = by_bool (is_idle n) refl
     by_bool true e = absurd (not_both n v e)
     by_bool false e = e
 
-module _ {C O : Type 0} (tells : Bool) (state : C → CellState) (offers : O → Offers) (s : Store C O) (p p1 p2 : Pass C) (t a n version : ℕ) (may : MayTakeAnchor tells state offers s p t a)
+module _ {C O : Type 0} (tells : Bool) (state : C → CellState) {says : Bool} (offers : O → OffersOf says) (s : Store C O) (p p1 p2 : Pass C) (t a n version : ℕ) (may : MayTakeAnchor tells state offers s p t a)
     (looks : Steps (basis tells state offers s) (view p) (Look a) n (view p1)) (drew : Drew (basis tells state offers s) (view p1) version (view p2)) (own : IsOf tells state offers s p2) where
-  abbrev g : Ground (List ℕ)
+  abbrev g : GroundOf (is_said says tells) (List ℕ)
   g = basis tells state offers s
 
   looked_tabs : (view p1).tabs ≡ (view p).tabs
@@ -86,7 +88,7 @@ module _ {C O : Type 0} (tells : Bool) (state : C → CellState) (offers : O →
     };
   }
 
-module _ {X : Type 0} (g : Ground X) (t a n version : ℕ) (v w : View X) (pass : IsPass v) (below : t < inner) (free : InnerIsFree v) (took : TookAnchor g t a v n version w) where
+module _ {X : Type 0} {says : Bool} (g : GroundOf says X) (t a n version : ℕ) (v w : View X) (pass : IsPass v) (below : t < inner) (free : InnerIsFree v) (took : TookAnchor g t a v n version w) where
   found : n ≡ last_find a took.drawn.trail
   found = sym (same_find g took.seen took.drawn version took.drew a ∙ looked_last g v took.seen a n took.looks)
 
@@ -122,9 +124,9 @@ module _ {X : Type 0} (g : Ground X) (t a n version : ℕ) (v w : View X) (pass 
       tabs : w.tabs ≡ set (with_tab took.drawn inner rest) t writer
       tabs = ap View.tabs took.takes.leaves ∙ (let h = eq-eqb n (last_find a took.drawn.trail) found in rw (h, idle) refl)
 
-module _ {C O : Type 0} (tells : Bool) (state : C → CellState) (offers : O → Offers) (s : Store C O) (p q : Pass C) (t offer : ℕ) (url : List ℕ) (may : MayBegin tells state offers s p t offer url) (n version : ℕ)
+module _ {C O : Type 0} (tells : Bool) (state : C → CellState) {says : Bool} (offers : O → OffersOf says) (s : Store C O) (p q : Pass C) (t offer : ℕ) (url : List ℕ) (may : MayBegin tells state offers s p t offer url) (n version : ℕ)
     (took : TookAnchor (basis tells state offers s) t (anchor_for (basis tells state offers s) url) (view p) n version (view q)) (own : IsOf tells state offers s q) where
-  abbrev h : Ground (List ℕ)
+  abbrev h : GroundOf (is_said says tells) (List ℕ)
   h = basis tells state offers s
 
   abbrev a : ℕ
@@ -163,11 +165,18 @@ module _ {C O : Type 0} (tells : Bool) (state : C → CellState) (offers : O →
       pub room : length url + 72 ≤ h.slot
       room = let z : room_of h.slot < 32 + length url → ⊥ = short in omega arith
 
-      offer_fits : IsOfferFor h offer a (front_half (key_of (url_of h offer))) (back_half (key_of (url_of h offer)))
-      offer_fits = record {
-        url = subst Rattle.store_key.specs.Url.IsUrl (sym may.url_is) may.good;
-        short = subst (λ (u : List ℕ). length u + 72 ≤ h.slot) (sym may.url_is) room;
-        anchor = ap (λ (u : List ℕ). anchor_of (key_of u) h.setting.anchors) may.url_is;
+      -- what the caller named is the entry's URL
+      abbrev named_in : List ℕ
+      named_in = cond (is_said says tells) (url_of h offer) url
+
+      pub named_is : named_in ≡ url
+      named_is = named_by (is_said says tells) (url_of h offer) url may.url_is
+
+      url_fits : (named : List ℕ) → named ≡ url → IsUrlFor h named a (front_half (key_of named)) (back_half (key_of named))
+      url_fits named is = record {
+        url = subst Rattle.store_key.specs.Url.IsUrl (sym is) may.good;
+        short = subst (λ (u : List ℕ). length u + 72 ≤ h.slot) (sym is) room;
+        anchor = ap (λ (u : List ℕ). anchor_of (key_of u) h.setting.anchors) is;
         key0 = refl;
         key1 = refl;
       }
@@ -179,8 +188,8 @@ module _ {C O : Type 0} (tells : Bool) (state : C → CellState) (offers : O →
         inner_free = tab_cleared.1;
         unchosen = subst (OfWriter (λ w. (w.is_appending ≡ false) × (w.chosen ≡ None) × (w.published ≡ []))) (sym tab_cleared.0) (refl, refl, refl);
         from = may.from;
-        fits = subst (λ (o : ℕ). IsOfferFor h offer o (front_half (key_of url)) (back_half (key_of url))) (sym (ap Rattle.core_model.specs.Tabs.anchor_of tab_cleared.0))
-            (subst (λ (u : List ℕ). IsOfferFor h offer a (front_half (key_of u)) (back_half (key_of u))) may.url_is offer_fits);
+        fits = when_then (is_said says tells) (λ (is : url_of h offer ≡ url). subst (λ (o : ℕ). IsOfferFor h offer o (front_half (key_of url)) (back_half (key_of url))) (sym (ap Rattle.core_model.specs.Tabs.anchor_of tab_cleared.0))
+            (subst (λ (u : List ℕ). IsOfferFor h offer a (front_half (key_of u)) (back_half (key_of u))) is (url_fits (url_of h offer) is))) may.url_is;
       }
 
       module _ (u : Pass C) (named : Named h t (view r) (key_of url) offer (view u)) where
@@ -198,8 +207,8 @@ module _ {C O : Type 0} (tells : Bool) (state : C → CellState) (offers : O →
             let k2 = one_side named.middle1 named.middle2 Side.Offer offer named.found2 _ k1.2 k1.1 k1.0 named.stored in
             let k3 = one_side named.middle2 (view u) Side.Start 0 named.found3 _ k2.2 k2.1 k2.0 named.start in (
               k3.0 ∙ (λ i. Writing (record (writer_of a version) {
-                key0 = Some (front_half (key_of (sym may.url_is i)));
-                key1 = Some (back_half (key_of (sym may.url_is i)));
+                key0 = Some (front_half (key_of (sym named_is i)));
+                key1 = Some (back_half (key_of (sym named_is i)));
                 offer = Some offer;
                 start = Some 0;
               })),
@@ -220,7 +229,7 @@ module _ {C O : Type 0} (tells : Bool) (state : C → CellState) (offers : O →
             is = ap (λ z. tab_at z t) same_view ∙ tab_named.0;
             from = may.from;
             needed = may.needed room;
-            fits = offer_fits;
+            fits = url_fits named_in named_is;
           };
           drafts = drafts;
         }

@@ -10,7 +10,7 @@ use Rattle.store_rule.specs.declared.store.Pass.{Pass}
 use Rattle.store_rule.specs.declared.store.Store.{Store}
 use Rattle.store_rule.specs.Drafts.{DraftMoves}
 use Rattle.tab_states.specs.Desks.{buffer_at, draft_at, with_buffer_at, with_draft_at}
-use Rattle.store_rule.specs.Ground.{Offers}
+use Rattle.store_rule.specs.Ground.{OffersOf}
 use Rattle.store_rule.specs.Lending.{with_bytes}
 use Rattle.store_rule.specs.Passes.{IsOf, basis}
 use Rattle.rock_writer.specs.Drafting.{DeskMoves}
@@ -104,7 +104,7 @@ buffer_length slot [] t all lt = absurd (omega arith)
 buffer_length slot (d ∷ ds) zero all lt = all 0 d (omega arith)
 buffer_length slot (d ∷ ds) (suc t) all lt = buffer_length slot ds t (λ i e l. all (suc i) e (omega arith)) (omega arith)
 
-module _ {C O : Type 0} (tells : Bool) (state : C → CellState) (offers : O → Offers) (s : Store C O) where
+module _ {C O : Type 0} (tells : Bool) (state : C → CellState) {says : Bool} (offers : O → OffersOf says) (s : Store C O) where
   -- the buffer of a tab is as long as a slot
   pub buffer_long : (p : Pass C) (t : ℕ) → t < inner → IsOf tells state offers s p → length (buffer_at p.desks t) ≡ (basis tells state offers s).slot
   buffer_long p t below own = buffer_length _ p.desks t own.buffers (let n = p.nine_desks in omega arith)

@@ -21,7 +21,7 @@ use Rattle.core_model.specs.declared.view.Sight.TheVariants.{Logged, Named, Publ
 use Rattle.core_model.specs.declared.view.View.{View}
 use Rattle.store_rule.specs.declared.store.Pass.{Pass}
 use Rattle.store_rule.specs.declared.store.Store.{Store}
-use Rattle.store_rule.specs.Ground.{Ground, Offers}
+use Rattle.store_rule.specs.Ground.{GroundOf, OffersOf, is_said}
 use Rattle.store_rule.specs.Passes.{basis, view}
 use Rattle.store_rule.specs.Told.{Steps}
 use Rattle.store_rule.proofs.Passing.{pass_of}
@@ -59,7 +59,7 @@ module _ {X : Type 0} where
   abbrev pub WritesLike : Writer X → Tab X → Type 0
   WritesLike x tab = (claim : Option ℕ) × (slots : List ℕ) × (tab ≡ Writing record x { claim = claim; reserved = slots })
 
-module _ {X : Type 0} (g : Ground X) where
+module _ {X : Type 0} {says : Bool} (g : GroundOf says X) where
   pub so_far_on : (e : Entry) (v w : View X) → ((x : Sight) → Contains v.seen x → Contains w.seen x) → LoggedSoFar g e v → LoggedSoFar g e w
   so_far_on e v w more h durable place lt = logged_on v w e.anchor e.version place more (h durable place lt)
 
@@ -181,8 +181,8 @@ some_bytes : (xs : List ℕ) → xs ≢ [] → 0 < length xs
 some_bytes [] h = absurd (h refl)
 some_bytes (x ∷ xs) h = omega arith
 
-module _ {C O : Type 0} (tells : Bool) (state : C → CellState) (offers : O → Offers) (s : Store C O) (t : ℕ) (e : Entry) where
-  abbrev g : Ground (List ℕ)
+module _ {C O : Type 0} (tells : Bool) (state : C → CellState) {says : Bool} (offers : O → OffersOf says) (s : Store C O) (t : ℕ) (e : Entry) where
+  abbrev g : GroundOf (is_said says tells) (List ℕ)
   g = basis tells state offers s
 
   abbrev r : ℕ

@@ -3,14 +3,14 @@ use Rattle.std.proofs.Common.{Bool, List, ℕ}
 use Rattle.rock_disk.specs.Cell.{CellState}
 use Rattle.store_rule.specs.declared.store.Pass.{Pass}
 use Rattle.store_rule.specs.declared.store.Store.{Store}
-use Rattle.store_rule.specs.Ground.{Ground, Offers}
+use Rattle.store_rule.specs.Ground.{GroundOf, OffersOf, is_said}
 use Rattle.store_rule.specs.Passes.{basis}
 use Rattle.slice_chain.proofs.During.{left_during}
 use Rattle.rock_writer.specs.During.{LeftDuringAppend, LeftDuringFinish}
 use Rattle.rock_writer.specs.Entries.{Entry}
 
-module _ {C O : Type 0} (tells : Bool) (state : C → CellState) (offers : O → Offers) (s : Store C O) (t : ℕ) (e : Entry) (p q : Pass C) where
-  abbrev g : Ground (List ℕ)
+module _ {C O : Type 0} (tells : Bool) (state : C → CellState) {says : Bool} (offers : O → OffersOf says) (s : Store C O) (t : ℕ) (e : Entry) (p q : Pass C) where
+  abbrev g : GroundOf (is_said says tells) (List ℕ)
   g = basis tells state offers s
 
   pub left_during_append : (bytes : List ℕ) → LeftDuringAppend tells state offers s t e p q bytes

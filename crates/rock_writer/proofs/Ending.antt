@@ -17,7 +17,7 @@ use Rattle.core_model.specs.declared.moves.Move.TheVariants.{Raise}
 use Rattle.tab_states.specs.declared.desks.Desk.{Desk}
 use Rattle.store_rule.specs.declared.store.Pass.{Pass}
 use Rattle.store_rule.specs.declared.store.Store.{Store}
-use Rattle.store_rule.specs.Ground.{Ground, Offers}
+use Rattle.store_rule.specs.Ground.{GroundOf, OffersOf, is_said}
 use Rattle.store_rule.specs.Passes.{IsOf, Made, May, basis, view}
 use Rattle.store_rule.proofs.Passing.{pass_of}
 use Rattle.rock_writer.specs.Drafting.{IsWhole}
@@ -29,9 +29,9 @@ use Rattle.rock_writer.proofs.Growing.{linked, linked_as}
 use Rattle.rock_writer.proofs.Parting.{may_part}
 use Rattle.rock_writer.proofs.Sizes.{last_piece, needed_is}
 
-module _ {C O : Type 0} (tells : Bool) (state : C → CellState) (offers : O → Offers) (s : Store C O) (p : Pass C) (t : ℕ) (e : Entry) (h : MayFinish tells state offers s t e p)
+module _ {C O : Type 0} (tells : Bool) (state : C → CellState) {says : Bool} (offers : O → OffersOf says) (s : Store C O) (p : Pass C) (t : ℕ) (e : Entry) (h : MayFinish tells state offers s t e p)
     (whole_size : length (whole_in (basis tells state offers s) e) ≡ 32 + length (url_in (basis tells state offers s) e) + length (body_in (basis tells state offers s) e)) where
-  abbrev g : Ground (List ℕ)
+  abbrev g : GroundOf (is_said says tells) (List ℕ)
   g = basis tells state offers s
 
   abbrev ps : List ℕ
@@ -65,7 +65,7 @@ module _ {C O : Type 0} (tells : Bool) (state : C → CellState) (offers : O →
         anchor_is = refl;
       }
 
-module _ {C O : Type 0} (tells : Bool) (state : C → CellState) (offers : O → Offers) (s : Store C O) (t : ℕ) (e : Entry) (p : Pass C) (h : MayClose tells state offers s t e p) where
+module _ {C O : Type 0} (tells : Bool) (state : C → CellState) {says : Bool} (offers : O → OffersOf says) (s : Store C O) (t : ℕ) (e : Entry) (p : Pass C) (h : MayClose tells state offers s t e p) where
   pub may_raise_closed : May tells state offers s p (Raise t Closed)
   may_raise_closed = record {
     own = h.own;

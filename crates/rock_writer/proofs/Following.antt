@@ -4,7 +4,7 @@ use Rattle.rock_disk.specs.Cell.{CellState}
 use Rattle.core_model.specs.Tabs.{tab_at}
 use Rattle.store_rule.specs.declared.store.Pass.{Pass}
 use Rattle.store_rule.specs.declared.store.Store.{Store}
-use Rattle.store_rule.specs.Ground.{Offers}
+use Rattle.store_rule.specs.Ground.{OffersOf}
 use Rattle.core_model.specs.declared.tab.Tab.{Tab}
 use Rattle.store_rule.specs.Passes.{IsOf, Keeps, view}
 use Rattle.store_rule.specs.Calls.{Follows}
@@ -51,7 +51,7 @@ err_of x y e = ap Err (err_is x y e)
 pub no_err : {T E : Type 0} (x : T) (y : E) → IsErrOf (Ok x) y → ⊥
 no_err x y e = cc
 
-module _ {C O : Type 0} (tells : Bool) (state : C → CellState) (offers : O → Offers) (s : Store C O) (t : ℕ) where
+module _ {C O : Type 0} (tells : Bool) (state : C → CellState) {says : Bool} (offers : O → OffersOf says) (s : Store C O) (t : ℕ) where
   -- a call that has changed no tab
   pub kept_follows : (p q : Pass C) → Keeps tells state offers s p q → (view q).tabs ≡ (view p).tabs → Follows tells state offers s t p q
   kept_follows p q h tabs = record {

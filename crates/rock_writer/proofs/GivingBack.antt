@@ -1,5 +1,5 @@
 -- Slots that a tab reserved and did not link are given back.
-use Rattle.std.proofs.Common.{Contains, List, None, Option, Some, [], ap, arith, eq-eqb, false, get_or-set_other, get_or-set_same, length, length-set, ne_eqb, refl, subst, sym, true, unwrap_or, ◌+◌, ◌<◌, ◌≡◌, ◌≢◌, ◌≤◌, ◌∙◌, ◌∷◌, ℕ}
+use Rattle.std.proofs.Common.{Bool, Contains, List, None, Option, Some, [], ap, arith, eq-eqb, false, get_or-set_other, get_or-set_same, length, length-set, ne_eqb, refl, subst, sym, true, unwrap_or, ◌+◌, ◌<◌, ◌≡◌, ◌≢◌, ◌≤◌, ◌∙◌, ◌∷◌, ℕ}
 use Rattle.link_word.specs.declared.link.Link.{Link}
 use Rattle.link_word.specs.declared.link.Link.TheVariants.{Last as LastLink, Next, NotWritten}
 use Rattle.lock_word.specs.declared.stage.Stage.TheVariants.{Halted}
@@ -12,7 +12,7 @@ use Rattle.core_model.specs.declared.tab.Tab.{Tab}
 use Rattle.core_model.specs.declared.tab.Tab.TheVariants.{Writing}
 use Rattle.core_model.specs.declared.tab.Writer.{Writer}
 use Rattle.core_model.specs.declared.view.View.{View}
-use Rattle.store_rule.specs.Ground.{Ground}
+use Rattle.store_rule.specs.Ground.{GroundOf}
 use Rattle.tab_states.specs.Tabs.{head_of}
 use Rattle.rock_writer.specs.Halting.{GaveBack, unlinked}
 
@@ -21,7 +21,7 @@ given None w = w
 given (Some slot) w = record w { reserved = without slot w.reserved; is_ending = true }
 
 -- the tab after a slot was given back, if there is one
-pub gave_tab : {X : Type 0} (g : Ground X) (t : ℕ) → t < inner → (slot : Option ℕ) (v w : View X) (x : Writer X) → IsPass v → tab_at v t ≡ Writing x → InnerIsFree v → GaveBack g t slot v w
+pub gave_tab : {X : Type 0} {says : Bool} (g : GroundOf says X) (t : ℕ) → t < inner → (slot : Option ℕ) (v w : View X) (x : Writer X) → IsPass v → tab_at v t ≡ Writing x → InnerIsFree v → GaveBack g t slot v w
     → (tab_at w t ≡ Writing (given slot x)) × InnerIsFree w
 gave_tab g t below None v w x pass is free gave = (ap (λ z. tab_at z t) gave ∙ is, subst InnerIsFree (sym gave) free)
 gave_tab {X} g t below (Some slot) v w x pass is free gave = (
@@ -30,7 +30,7 @@ gave_tab {X} g t below (Some slot) v w x pass is free gave = (
 )
 
 -- it has nine tabs still
-pub gave_nine : {X : Type 0} (g : Ground X) (t : ℕ) (slot : Option ℕ) (v w : View X) → IsPass v → GaveBack g t slot v w → IsPass w
+pub gave_nine : {X : Type 0} {says : Bool} (g : GroundOf says X) (t : ℕ) (slot : Option ℕ) (v w : View X) → IsPass v → GaveBack g t slot v w → IsPass w
 gave_nine g t None v w pass gave = subst IsPass (sym gave) pass
 gave_nine g t (Some slot) v w pass gave = ap (λ z. length (View.tabs z)) gave.step.leaves ∙ length-set v.tabs t (gives_back (tab_at v t) slot) ∙ pass
 

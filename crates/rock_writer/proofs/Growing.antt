@@ -23,13 +23,13 @@ use Rattle.tab_states.specs.declared.desks.Desk.{Desk}
 use Rattle.store_rule.specs.declared.store.Pass.{Pass}
 use Rattle.store_rule.specs.declared.store.Store.{Store}
 use Rattle.tab_states.specs.Desks.{draft_at}
-use Rattle.store_rule.specs.Ground.{Ground, Offers, cut_of}
+use Rattle.store_rule.specs.Ground.{GroundOf, OffersOf, is_said}
 use Rattle.store_rule.specs.Passes.{IsOf, Made, May, basis, view}
 use Rattle.store_rule.proofs.Passing.{pass_of}
 use Rattle.slice_chain.specs.Links.{Published, next_link}
 use Rattle.slice_chain.specs.Writes.{chose}
 use Rattle.rock_writer.specs.Drafting.{IsWhole}
-use Rattle.rock_writer.specs.Entries.{Entry, GoesOn, Rests, WritesWith, not_empty, whole_in, writer_as, body_in, url_in}
+use Rattle.rock_writer.specs.Entries.{Entry, GoesOn, Rests, WritesWith, body_in, cut_in, not_empty, url_in, whole_in, writer_as}
 use Rattle.core_model.specs.Table.{left_by}
 use Rattle.store_rule.specs.Told.{Steps}
 use Rattle.rock_writer.specs.Flushing.{MayFlush, MayPublishPiece, RaisedBefore, RaisedFirst, WrotePiece}
@@ -37,7 +37,7 @@ use Rattle.rock_writer.proofs.Resting.{inner_now, nine_now, tab_now}
 use Rattle.rock_writer.proofs.Publishing.{writer_in}
 use Rattle.rock_writer.proofs.Sizes.{full_piece, needs_more, next_room}
 
-module _ {X : Type 0} (g : Ground X) (t : ℕ) (below : t < inner) (e : Entry) where
+module _ {X : Type 0} {says : Bool} (g : GroundOf says X) (t : ℕ) (below : t < inner) (e : Entry) where
   -- the tab with one slot more published, before its entry may be read
   abbrev pub linked_as : (published : List ℕ) (slot : ℕ) (end : Link) (reserved : List ℕ) → Writer X
   linked_as published slot end reserved = record (writer_as g e (published ++ slot ∷ []) end reserved) { is_appending = not_empty published }
@@ -86,9 +86,9 @@ module _ {X : Type 0} (g : Ground X) (t : ℕ) (below : t < inner) (e : Entry) w
           inner_now t wrote.written w (publishes (tab_at wrote.written t) slot (next_link next)) nine below one written_free,
         )
 
-module _ {C O : Type 0} (tells : Bool) (state : C → CellState) (offers : O → Offers) (s : Store C O) (p : Pass C) (t : ℕ) (e : Entry) (h : MayFlush tells state offers s p t e)
+module _ {C O : Type 0} (tells : Bool) (state : C → CellState) {says : Bool} (offers : O → OffersOf says) (s : Store C O) (p : Pass C) (t : ℕ) (e : Entry) (h : MayFlush tells state offers s p t e)
     (whole_size : length (whole_in (basis tells state offers s) e) ≡ 32 + length (url_in (basis tells state offers s) e) + length (body_in (basis tells state offers s) e)) where
-  abbrev g : Ground (List ℕ)
+  abbrev g : GroundOf (is_said says tells) (List ℕ)
   g = basis tells state offers s
 
   abbrev ps : List ℕ
@@ -101,7 +101,7 @@ module _ {C O : Type 0} (tells : Bool) (state : C → CellState) (offers : O →
   longer = let c = h.writes.drafts.count in let f = h.full in let m = h.more in omega (arith, whole_size)
 
   -- the content takes one slot more, behind this piece
-  pub more_pieces : length ps + 1 < count (cut_of g e.offer 0 0)
+  pub more_pieces : length ps + 1 < count (cut_in g e 0 0)
   more_pieces = needs_more (length (whole_in g e)) (length ps) (room_of g.slot) some_room longer
 
   module _ (q : Pass C) (slot next : ℕ) (rests : Rests tells state offers s q t e ps h.writes.end (slot ∷ next ∷ [])) (desks : q.desks ≡ p.desks) where

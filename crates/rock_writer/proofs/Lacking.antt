@@ -1,13 +1,13 @@
 -- Where no slot was left for a piece, the store does not fit.
 use Rattle.std.proofs.Common.{Bool, false, ◌≡◌, ◌⊎◌, ⊎_elim, ℕ}
 use Rattle.core_model.specs.declared.view.View.{View}
-use Rattle.store_rule.specs.Ground.{Ground, fits}
+use Rattle.store_rule.specs.Ground.{GroundOf, fits}
 use Rattle.rock_writer.specs.declared.fault.WriteFault.{WriteFault}
 use Rattle.rock_writer.specs.declared.fault.WriteFault.TheVariants.{Fault, Full, Large}
 use Rattle.rock_writer.specs.Finishing.{NotWrittenLast}
 use Rattle.rock_writer.specs.Flushing.{LacksNext, LacksSlot, NotFlushed}
 
-module _ {X : Type 0} (g : Ground X) (t hand : ℕ) (durable : Bool) (v w : View X) (hand_after : ℕ) where
+module _ {X : Type 0} {says : Bool} (g : GroundOf says X) (t hand : ℕ) (durable : Bool) (v w : View X) (hand_after : ℕ) where
   pub flush_unfit : (fault : WriteFault) → NotFlushed g t hand durable v fault w hand_after → fault ≡ Full → fits g ≡ false
   flush_unfit Full h e = ⊎_elim
       (λ (none : (hand_after ≡ hand) × LacksSlot g t hand v w). none.1.out.none.unfit)

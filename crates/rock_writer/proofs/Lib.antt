@@ -2,6 +2,7 @@ pub mod Standing
 pub mod GivingBack
 pub mod Parting
 pub mod Unlinking
+pub mod Offered
 pub mod Resting
 pub mod Publishing
 pub mod Following
@@ -14,6 +15,7 @@ pub mod Seeing
 pub mod Ending
 pub mod Begun
 pub mod Staying
+pub mod GoingOn
 pub mod Durable
 pub mod During
 pub mod Lacking

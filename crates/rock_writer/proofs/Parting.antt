@@ -20,7 +20,7 @@ use Rattle.core_model.specs.declared.view.View.{View}
 use Rattle.core_model.proofs.Tabs.{tab_there}
 use Rattle.store_rule.specs.declared.store.Pass.{Pass}
 use Rattle.store_rule.specs.declared.store.Store.{Store}
-use Rattle.store_rule.specs.Ground.{Ground, Offers}
+use Rattle.store_rule.specs.Ground.{GroundOf, OffersOf}
 use Rattle.store_rule.specs.Passes.{IsOf, Made, basis, view}
 use Rattle.tab_states.specs.Tabs.{is_last}
 use Rattle.store_rule.proofs.Passing.{pass_of}
@@ -31,7 +31,7 @@ use Rattle.slice_chain.specs.Freeing.{FollowsTab, Freed, MayFreeChain}
 use Rattle.rock_writer.specs.Halting.{MayPart}
 use Rattle.rock_writer.proofs.Standing as standing
 
-module _ {C O : Type 0} (tells : Bool) (state : C → CellState) (offers : O → Offers) (s : Store C O) where
+module _ {C O : Type 0} (tells : Bool) (state : C → CellState) {says : Bool} (offers : O → OffersOf says) (s : Store C O) where
   pub halting_of : (t : ℕ) (p q : Pass C) → Follows tells state offers s t p q → FollowsTab tells state offers s t p q
   halting_of t p q h = record { own = h.own; others = h.others; left = λ j ne far. h.left j ne; places = h.places; desks = h.desks; hand = h.hand; cells = h.cells }
 
@@ -57,7 +57,7 @@ module _ {X : Type 0} where
   abbrev pub Ends : Writer X → Stage → Type 0
   Ends w to = (n : ℕ) → raised_tab (Writing w) to n ≡ left_tab w.anchor n
 
-module _ {C O : Type 0} (tells : Bool) (state : C → CellState) (offers : O → Offers) (s : Store C O) (p q : Pass C) (t told : ℕ) (to : Stage) (w : Writer (List ℕ)) where
+module _ {C O : Type 0} (tells : Bool) (state : C → CellState) {says : Bool} (offers : O → OffersOf says) (s : Store C O) (p q : Pass C) (t told : ℕ) (to : Stage) (w : Writer (List ℕ)) where
   -- a tab that raised its entry to an end may part from it
   pub may_part : IsOf tells state offers s p → t < inner → InnerIsFree (view p) → tab_at (view p) t ≡ Writing w → Ends w to → Made tells state offers s p (Raise t to) told q → MayPart tells state offers s q t
   may_part own below free is ends made = record {
@@ -106,7 +106,7 @@ module _ {C O : Type 0} (tells : Bool) (state : C → CellState) (offers : O →
         left = ap (λ (z : List ℕ). get_or z t 0) made.left ∙ get_or-set_same p.left t told 0 (let n = p.nine_left in let b = below in omega arith) ∙ sym find ∙ ap (λ (z : ℕ). last_find z (view q).trail) (sym (ap anchor_of at));
       }
 
-module _ {X : Type 0} (g : Ground X) (v w : View X) (t : ℕ) (pass : IsPass v) (below : t < inner) (free : InnerIsFree v) where
+module _ {X : Type 0} {says : Bool} (g : GroundOf says X) (v w : View X) (t : ℕ) (pass : IsPass v) (below : t < inner) (free : InnerIsFree v) where
   -- it lost its entry to another pass
   pub gave_up_done : GivenUp g v t Left.Done w → (tab_at w t ≡ Tab.Free) × InnerIsFree w
   gave_up_done gives = (
@@ -139,7 +139,7 @@ module _ {X : Type 0} (g : Ground X) (v w : View X) (t : ℕ) (pass : IsPass v) 
       tabs : w.tabs ≡ set (with_tab v t Tab.Free) inner rest
       tabs = ap View.tabs gives.evict.leaves ∙ (let h = eq-eqb gives.found (last_find (anchor_of (tab_at v t)) v.trail) (gives.won.0 refl) in rw h refl)
 
-module _ {C O : Type 0} (tells : Bool) (state : C → CellState) (offers : O → Offers) (s : Store C O) (p q : Pass C) (t : ℕ) (may : MayPart tells state offers s p t) (gives : GivenUp (basis tells state offers s) (view p) t Left.MustFree (view q)) (own : IsOf tells state offers s q) where
+module _ {C O : Type 0} (tells : Bool) (state : C → CellState) {says : Bool} (offers : O → OffersOf says) (s : Store C O) (p q : Pass C) (t : ℕ) (may : MayPart tells state offers s p t) (gives : GivenUp (basis tells state offers s) (view p) t Left.MustFree (view q)) (own : IsOf tells state offers s q) where
   must : (tab_at (view q) t ≡ Tab.Free) × ((n : ℕ) × (c : Chain) × (tab_at (view q) inner ≡ Freeing (freer_of (anchor_of (tab_at (view p) t)) true n c)))
   must = gave_up_must (basis tells state offers s) (view p) (view q) t (pass_of p) may.below may.inner_free gives
 
@@ -153,5 +153,5 @@ module _ {C O : Type 0} (tells : Bool) (state : C → CellState) (offers : O →
   )
 
 -- a tab that is last already gives its entry up
-pub gives_up : {X : Type 0} (g : Ground X) (v w : View X) (t : ℕ) (left : Left) → is_last (tab_at v t) ≡ true → Leaves g v t left w → GivenUp g v t left w
+pub gives_up : {X : Type 0} {says : Bool} (g : GroundOf says X) (v w : View X) (t : ℕ) (left : Left) → is_last (tab_at v t) ≡ true → Leaves g v t left w → GivenUp g v t left w
 gives_up g v w t left last leaves = ⊎_elim (λ (h : (is_last (tab_at v t) ≡ true) × GivenUp g v t left w). h.1) (λ h. absurd (false≢true (sym h.0 ∙ last))) leaves

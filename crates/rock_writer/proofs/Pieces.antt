@@ -1,5 +1,5 @@
 -- The piece that a tab fills: what its buffer holds of the content.
-use Rattle.std.proofs.Common.{List, add-zero, add_assoc, ap, append_assoc, arith, drop, length, length-append, length-drop, length-take, subst, suc-mul, sym, take, zero-mul, ◌*◌, ◌++◌, ◌+◌, ◌-◌, ◌<◌, ◌≡◌, ◌≤◌, ◌∙◌, ℕ}
+use Rattle.std.proofs.Common.{Bool, List, add-zero, add_assoc, ap, append_assoc, arith, drop, length, length-append, length-drop, length-take, subst, suc-mul, sym, take, zero-mul, ◌*◌, ◌++◌, ◌+◌, ◌-◌, ◌<◌, ◌≡◌, ◌≤◌, ◌∙◌, ℕ}
 use Rattle.std.proofs.Math.Numerals.{suc-eq-add-one}
 use Rattle.std.proofs.Math.Seq.{drop-append-add, take-add, take-append-add}
 use Rattle.std.proofs.lemmas.List.{drop-append-le, drop-drop, drop-take, drop_at, length-take-le, take-append-le, take-take, take_at, take_min}
@@ -14,10 +14,10 @@ use Rattle.store_key.specs.Key.{key_of}
 use Rattle.tab_states.specs.declared.desks.Draft.{Draft}
 use Rattle.tab_states.specs.declared.desks.Desk.{Desk}
 use Rattle.tab_states.specs.Desks.{buffer_at, draft_at}
-use Rattle.store_rule.specs.Ground.{Ground, cut_of}
+use Rattle.store_rule.specs.Ground.{GroundOf}
 use Rattle.swap_meta.specs.Meta.{meta_bytes}
 use Rattle.rock_writer.specs.Drafting.{IsBegun, IsWhole}
-use Rattle.rock_writer.specs.Entries.{Continues, Drafts, Entry, body_in, size_of, url_in, whole_in, with_taken}
+use Rattle.rock_writer.specs.Entries.{Continues, Drafts, Entry, body_in, cut_in, size_of, url_in, whole_in, with_taken}
 
 -- what lies behind the room for a header, after that was written anew
 pub behind_room : (h n : ℕ) (buffer out rest : List ℕ) → h ≤ length buffer → n ≤ length out → take n (drop h (take h buffer ++ (out ++ rest))) ≡ take n out
@@ -67,7 +67,7 @@ within_body bytes body taken n e le inside = omega (arith, ap length e, length-t
 same_take : (m : ℕ) (xs : List ℕ) → take (length (take m xs)) xs ≡ take m xs
 same_take m xs = ap (λ (n : ℕ). take n xs) (length-take m xs) ∙ take_min m xs
 
-module _ (g : Ground (List ℕ)) (t : ℕ) (after : List Desk) (e : Entry) where
+module _ {says : Bool} (g : GroundOf says (List ℕ)) (t : ℕ) (after : List Desk) (e : Entry) where
   -- the metadata of an entry lies in the buffer, and nothing else of it
   pub started : (key url : List ℕ) (draft : Draft) → draft_at after t ≡ draft → draft.key ≡ key → draft.held ≡ 32 + length url → draft.is_durable ≡ e.is_durable
       → length url + 72 ≤ g.slot → take (32 + length url) (drop HEADER_SIZE (buffer_at after t)) ≡ meta_bytes key url → length (meta_bytes (key_of (url_in g e)) (url_in g e)) ≡ 32 + length (url_in g e)
@@ -148,15 +148,15 @@ module _ (g : Ground (List ℕ)) (t : ℕ) (after : List Desk) (e : Entry) where
         more : (place + 1) * room_of g.slot ≡ start + room_of g.slot
         more = ap (λ (n : ℕ). n * room_of g.slot) (sym (suc-eq-add-one place)) ∙ suc-mul place (room_of g.slot)
 
-module _ (g : Ground (List ℕ)) (ds : List Desk) (t : ℕ) (e : Entry) (place first version : ℕ) (behind : Behind) (same : e.version ≡ version) (whole : IsWhole g ds t e place first behind) where
+module _ {says : Bool} (g : GroundOf says (List ℕ)) (ds : List Desk) (t : ℕ) (e : Entry) (place first version : ℕ) (behind : Behind) (same : e.version ≡ version) (whole : IsWhole g ds t e place first behind) where
   abbrev cut : Cut
-  cut = cut_of g e.offer version first
+  cut = cut_in g e version first
 
   pub sized : (draft_at ds t).held ≡ length (payload cut place)
   sized = whole.size
 
   pub comes : ComesBehind cut place behind
-  comes = subst (λ (v : ℕ). ComesBehind (cut_of g e.offer v first) place behind) same whole.comes
+  comes = subst (λ (v : ℕ). ComesBehind (cut_in g e v first) place behind) same whole.comes
 
   -- behind its header the buffer has the payload
   pub sealed : (h : Header) → h ≡ header cut place (next_of behind) → length (buffer_at ds t) ≡ g.slot

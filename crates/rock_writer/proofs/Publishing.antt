@@ -21,7 +21,7 @@ use Rattle.core_model.specs.declared.tab.Writer.{Writer}
 use Rattle.core_model.proofs.Tabs.{tab_there}
 use Rattle.store_rule.specs.declared.store.Pass.{Pass}
 use Rattle.store_rule.specs.declared.store.Store.{Store}
-use Rattle.store_rule.specs.Ground.{Ground, Offers, cut_of, offering_of}
+use Rattle.store_rule.specs.Ground.{GroundOf, OffersOf, is_said, offering_of}
 use Rattle.tab_states.specs.Desks.{buffer_at}
 use Rattle.store_rule.specs.Passes.{IsOf, basis, view}
 use Rattle.store_rule.specs.Setting.{image_in, next_number}
@@ -30,9 +30,10 @@ use Rattle.store_rule.proofs.Passing.{pass_of}
 use Rattle.slice_chain.specs.Links.{MayPublishSlot, next_link}
 use Rattle.slice_chain.specs.Writes.{MayWriteSlot, WroteSlot, chose}
 use Rattle.rock_writer.specs.Drafting.{DeskMoves, IsWhole}
-use Rattle.rock_writer.specs.Entries.{Entry, writer_as}
+use Rattle.rock_writer.specs.Entries.{Entry, cut_in, writer_as}
 use Rattle.rock_writer.specs.Flushing.{MayPublishPiece, next_behind, slots_behind}
 use Rattle.rock_writer.specs.Halting.{MayHalt}
+use Rattle.rock_writer.proofs.Offered.{image_told, keeps_in}
 use Rattle.rock_writer.proofs.Resting.{inner_now, open_end, tab_now}
 use Rattle.rock_writer.proofs.Standing as standing
 
@@ -52,18 +53,12 @@ pub first_same : (published : List ℕ) (slot : ℕ) (more : List ℕ) → first
 first_same [] slot more = refl
 first_same (x ∷ xs) slot more = refl
 
--- the image of a piece where cells tell
-image_told : (b : Bool) (offers : Offers) (slots slot : ℕ) (p : Piece) → IsTrue b
-    → image_in b offers slots slot p ≡ image_in true offers slots slot p
-image_told true offers slots slot p h = refl
-image_told false offers slots slot p h = absurd (false≢true h)
-
 abbrev pub writer_in : {X : Type 0} → Writer X → Tab X → Writer X
 writer_in w (Writing x) = x
 writer_in w _ = w
 
-module _ {C O : Type 0} (tells : Bool) (state : C → CellState) (offers : O → Offers) (s : Store C O) (p : Pass C) (t slot : ℕ) (behind : Behind) (h : MayPublishPiece tells state offers s p t slot behind) where
-  abbrev g : Ground (List ℕ)
+module _ {C O : Type 0} (tells : Bool) (state : C → CellState) {says : Bool} (offers : O → OffersOf says) (s : Store C O) (p : Pass C) (t slot : ℕ) (behind : Behind) (h : MayPublishPiece tells state offers s p t slot behind) where
+  abbrev g : GroundOf (is_said says tells) (List ℕ)
   g = basis tells state offers s
 
   abbrev e : Entry
@@ -96,34 +91,12 @@ module _ {C O : Type 0} (tells : Bool) (state : C → CellState) (offers : O →
 
   -- what a call that seals the piece says of its buffer
   pub sealed_is : (version first2 : ℕ) (bytes : List ℕ) → first2 ≡ first → e.version ≡ version
-      → ((x : Entry) (n : ℕ) → x.version ≡ version → IsWhole g p.desks t x n first2 behind → bytes ≡ image (cut_of g x.offer version first2) n (next_of behind))
-      → bytes ≡ image (cut_of g e.offer e.version first) place (next_of behind)
+      → ((x : Entry) (n : ℕ) → x.version ≡ version → IsWhole g p.desks t x n first2 behind → bytes ≡ image (cut_in g x version first2) n (next_of behind))
+      → bytes ≡ image (cut_in g e e.version first) place (next_of behind)
   sealed_is version first2 bytes f v says = says e place v (subst (λ (n : ℕ). IsWhole g p.desks t e place n behind) (sym f) h.whole)
-      ∙ (λ i. image (cut_of g e.offer (sym v i) (f i)) place (next_of behind))
+      ∙ (λ i. image (cut_in g e (sym v i) (f i)) place (next_of behind))
 
-  keeps : KeepsTo (offering_of g) w (piece_of w)
-  keeps = record {
-    key0 = _;
-    key1 = _;
-    key0_is = refl;
-    key1_is = refl;
-    fits = h.rests.fits;
-    some = some_pieces behind h.whole.comes;
-    last = is_last behind h.whole.comes;
-  }
-    where
-      some_pieces : (b : Behind) → ComesBehind (cut_of g e.offer e.version first) place b → 0 < count (cut_of g e.offer 0 0)
-      some_pieces (Slot next) c = let z : place + 1 < count (cut_of g e.offer 0 0) = c in omega arith
-      some_pieces (End size) c = let z : place + 1 ≡ count (cut_of g e.offer 0 0) = c.0 in omega arith
-
-      is_last : (b : Behind) → ComesBehind (cut_of g e.offer e.version first) place b → (link_to (slots_behind b) LastLink ≡ LastLink) ↔ (place + 1 ≡ count (cut_of g e.offer 0 0))
-      is_last (Slot next) c = ((λ l. absurd (not_last l)), (λ l. let z : place + 1 < count (cut_of g e.offer 0 0) = c in absurd (omega arith)))
-        where
-          not_last : Next next ≡ LastLink → ⊥
-          not_last z = cc
-      is_last (End size) c = ((λ l. c.0), (λ l. refl))
-
-  module _ (q : Pass C) (own : IsOf tells state offers s q) (kept : DeskMoves t p q) (sealed : buffer_at q.desks t ≡ image (cut_of g e.offer e.version first) place (next_of behind)) where
+  module _ (q : Pass C) (own : IsOf tells state offers s q) (kept : DeskMoves t p q) (sealed : buffer_at q.desks t ≡ image (cut_in g e e.version first) place (next_of behind)) where
     abbrev same : view q ≡ view p
     same = same_view t p q kept
 
@@ -136,10 +109,10 @@ module _ {C O : Type 0} (tells : Bool) (state : C → CellState) (offers : O →
       slot = slot;
       may = record { first = refl; goes_on = refl; none = refl; key0 = λ z. cc; key1 = λ z. cc; offer = λ z. cc };
       idle = refl;
-      keeps = keeps;
-      buffer = λ told. sealed ∙ ap (λ (n : ℕ). image (cut_of g e.offer e.version n) place (next_of behind)) (sym (first_same h.published slot (slots_behind behind)))
-          ∙ ap (image (cut_of g e.offer e.version (first_of (h.published ++ slot ∷ slots_behind behind))) place) (sym (named_next behind))
-          ∙ sym (image_told tells (offers _) g.setting.slots g.slot (piece_of w) told);
+      keeps = keeps_in (is_said says tells) g e h.published h.end slot behind h.rests.fits h.whole.comes;
+      buffer = λ told. sealed ∙ ap (λ (n : ℕ). image (cut_in g e e.version n) place (next_of behind)) (sym (first_same h.published slot (slots_behind behind)))
+          ∙ ap (image (cut_in g e e.version (first_of (h.published ++ slot ∷ slots_behind behind))) place) (sym (named_next behind))
+          ∙ image_told says tells (offers s.table.shared.key.origin.value) g.setting.slots g.slot e.url e.body (piece_of w) told;
     }
 
   module _ (r : Pass C) (durable done : Bool) (wrote : WroteSlot g t (view p) durable done (view r)) (own2 : IsOf tells state offers s r) where

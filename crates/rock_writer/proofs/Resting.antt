@@ -14,7 +14,7 @@ use Rattle.store_rule.specs.declared.store.Pass.{Pass}
 use Rattle.store_rule.specs.declared.store.Store.{Store}
 use Rattle.core_room.specs.Conditions.{MayBegin}
 use Rattle.entry_cut.specs.Content.{room_of}
-use Rattle.store_rule.specs.Ground.{Ground, Offers, fits, need_of}
+use Rattle.store_rule.specs.Ground.{GroundOf, OffersOf, fits, need_of, is_said}
 use Rattle.store_rule.specs.Calls.{Follows}
 use Rattle.store_rule.specs.Passes.{IsOf, basis, view}
 use Rattle.tab_states.specs.Tabs.{head_of}
@@ -29,6 +29,7 @@ use Rattle.rock_writer.specs.Flushing.{LacksSlot, SlotFor}
 use Rattle.slice_chain.specs.Victims.{Evicted, MayEvictOne, NoneIdle, hand_in}
 use Rattle.rock_writer.specs.Halting.{MayHalt}
 use Rattle.rock_writer.specs.Reserving.{RanOut, Reserved}
+use Rattle.rock_writer.proofs.Offered.{most_in}
 use Rattle.rock_writer.proofs.Sizes.{needs_one}
 
 module _ {X : Type 0} (t : ℕ) (v w : View X) (x : Tab X) (pass : IsPass v) (below : t < inner) (is : w.tabs ≡ with_tab v t x) where
@@ -97,8 +98,8 @@ module _ (end : Link) (none : head_of (slots_of_link end) ≡ None) where
   none_published [] h = refl
   none_published (x ∷ xs) h = absurd (none_named h.0 h.1)
 
-module _ {C O : Type 0} (tells : Bool) (state : C → CellState) (offers : O → Offers) (s : Store C O) (t : ℕ) (e : Entry) (published : List ℕ) (end : Link) where
-  abbrev g : Ground (List ℕ)
+module _ {C O : Type 0} (tells : Bool) (state : C → CellState) {says : Bool} (offers : O → OffersOf says) (s : Store C O) (t : ℕ) (e : Entry) (published : List ℕ) (end : Link) where
+  abbrev g : GroundOf (is_said says tells) (List ℕ)
   g = basis tells state offers s
 
   -- with one slot more it has at most what its content takes, and an entry may have
@@ -109,7 +110,7 @@ module _ {C O : Type 0} (tells : Bool) (state : C → CellState) (offers : O →
     below = h.below;
     inner_free = h.inner_free;
     may = subst (OfWriter MayReserve) (sym h.is) reserves_one;
-    needed = λ fitting. subst (OfWriter (MayBegin g.setting (need_of g))) (sym h.is) record { reserves = reserves_one; within = let n = h.needed fitting in let w = within fitting in omega arith };
+    needed = λ fitting. subst (OfWriter (MayBegin g.setting (need_of g))) (sym h.is) record { reserves = reserves_one; within = let n = h.needed fitting in let w = within fitting in let m = most_in (is_said says tells) g e in omega arith };
   }
     where
       no_piece : (q : Piece) → None ≡ Some q → ⊥
@@ -186,9 +187,9 @@ module _ {C O : Type 0} (tells : Bool) (state : C → CellState) (offers : O →
       unlinked (Next x) e = cc
 
 -- No slot was found free, and the pass looks for an entry to evict.
-module _ {C O : Type 0} (tells : Bool) (state : C → CellState) (offers : O → Offers) (s : Store C O) (t : ℕ) (p q : Pass C) (may : MayClaim tells state offers s p t) (follows : Follows tells state offers s t p q)
+module _ {C O : Type 0} (tells : Bool) (state : C → CellState) {says : Bool} (offers : O → OffersOf says) (s : Store C O) (t : ℕ) (p q : Pass C) (may : MayClaim tells state offers s p t) (follows : Follows tells state offers s t p q)
     (none : FoundAllTaken (basis tells state offers s) t (view p) (view q)) where
-  abbrev h : Ground (List ℕ)
+  abbrev h : GroundOf (is_said says tells) (List ℕ)
   h = basis tells state offers s
 
   pub may_evict : MayEvictOne tells state offers s q t

@@ -12,7 +12,7 @@ use Rattle.core_model.specs.declared.tab.Tab.{Tab}
 use Rattle.core_model.specs.declared.view.Sight.{Sight}
 use Rattle.core_model.specs.declared.view.Sight.TheVariants.{Stood}
 use Rattle.core_model.specs.declared.view.View.{View}
-use Rattle.store_rule.specs.Ground.{Ground}
+use Rattle.store_rule.specs.Ground.{GroundOf}
 use Rattle.store_rule.specs.Told.{Steps, found_as}
 use Rattle.store_rule.specs.Turns.{IsReturned}
 use Rattle.store_rule.specs.Calls.{IsFresh}
@@ -49,7 +49,7 @@ module _ {X : Type 0} where
     seen = subst (λ (xs : List Sight). Contains xs (Stood a epoch)) (sym last.1) (Contains-append_right last.0 w.seen (Stood a epoch) f.seen);
   }
 
-module _ {X : Type 0} (g : Ground X) where
+module _ {X : Type 0} {says : Bool} (g : GroundOf says X) where
   pub grows_step : (v w : View X) (m : Move) (n : ℕ) → Steps g v m n w → Grows v w
   grows_step v w m n st = (sights_of v m (found_as g.setting st.state v m n), ap View.seen st.leaves)
 

@@ -1,10 +1,10 @@
 -- How many slots a content needs, and which of them is being filled.
-use Rattle.std.proofs.Common.{arith, suc-mul, ◌*◌, ◌+◌, ◌-◌, ◌/◌, ◌<◌, ◌≡◌, ◌≢◌, ◌≤◌, ◌∙◌, ap, ℕ, List, length, length-append, take, drop}
+use Rattle.std.proofs.Common.{Bool, arith, suc-mul, ◌*◌, ◌+◌, ◌-◌, ◌/◌, ◌<◌, ◌≡◌, ◌≢◌, ◌≤◌, ◌∙◌, ap, ℕ, List, length, length-append, take, drop}
 use Rattle.std.proofs.lemmas.List.{length-drop, length-take}
 use Rattle.std.proofs.lemmas.Nat.{div-mul-add, le-div}
 use Rattle.store_key.specs.Key.{key_of}
 use Rattle.swap_meta.specs.Meta.{meta_bytes}
-use Rattle.store_rule.specs.Ground.{Ground}
+use Rattle.store_rule.specs.Ground.{GroundOf}
 use Rattle.rock_writer.specs.Entries.{Entry, body_in, url_in, whole_in}
 use Rattle.entry_cut.specs.Content.{piece}
 
@@ -53,7 +53,7 @@ pub room_left : (size k h r : ℕ) → size ≡ k * r + h → (k + 1) * r - size
 room_left size k h r is = omega (arith, next_room k r)
 
 -- metadata and body together
-pub whole_size : {X : Type 0} (g : Ground X) (e : Entry) → length (meta_bytes (key_of (url_in g e)) (url_in g e)) ≡ 32 + length (url_in g e) → length (whole_in g e) ≡ 32 + length (url_in g e) + length (body_in g e)
+pub whole_size : {X : Type 0} {says : Bool} (g : GroundOf says X) (e : Entry) → length (meta_bytes (key_of (url_in g e)) (url_in g e)) ≡ 32 + length (url_in g e) → length (whole_in g e) ≡ 32 + length (url_in g e) + length (body_in g e)
 whole_size g e m = length-append (meta_bytes (key_of (url_in g e)) (url_in g e)) (body_in g e) ∙ ap (λ (n : ℕ). n + length (body_in g e)) m
 
 -- bytes that come next are there

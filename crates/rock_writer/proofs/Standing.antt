@@ -18,10 +18,10 @@ use Rattle.core_model.proofs.Matching.{matches_writer}
 use Rattle.core_model.proofs.SlotFrame.{used_few}
 use Rattle.core_model.proofs.Tabs.{contains_times}
 use Rattle.core_model.proofs.Telling.{stage_told}
-use Rattle.store_rule.specs.Ground.{Ground}
+use Rattle.store_rule.specs.Ground.{GroundOf}
 use Rattle.store_rule.specs.Told.{Stands}
 
-module _ {X : Type 0} (g : Ground X) (v : View X) (st : Stands g v) (t : ℕ) (w : Writer X) (there : get_elem? v.tabs t ≡ some (Tab.Writing w)) where
+module _ {X : Type 0} {says : Bool} (g : GroundOf says X) (v : View X) (st : Stands g v) (t : ℕ) (w : Writer X) (there : get_elem? v.tabs t ≡ some (Tab.Writing w)) where
   m : (w.anchor < g.setting.anchors) × MatchesWriter st.state w
   m = matches_writer g.setting st.state st.rule.sound.anchors st.index t w record { view = v; at = st.at; there = there }
 

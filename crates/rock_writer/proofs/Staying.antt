@@ -9,7 +9,7 @@ use Rattle.tab_states.specs.declared.desks.Desk.{Desk}
 use Rattle.store_rule.specs.declared.store.Pass.{Pass}
 use Rattle.store_rule.specs.declared.store.Store.{Store}
 use Rattle.tab_states.specs.Desks.{buffer_at, draft_at}
-use Rattle.store_rule.specs.Ground.{Offers}
+use Rattle.store_rule.specs.Ground.{OffersOf}
 use Rattle.store_rule.specs.Passes.{basis, view}
 use Rattle.rock_writer.specs.Entries.{Entry, WritesAs, whole_in}
 use Rattle.rock_writer.specs.Passes.{FollowsWriting}
@@ -27,7 +27,7 @@ mapped f d (x ∷ xs) (suc i) = mapped f d xs i
 same_mapped : {A B : Type 0} (f : A → B) (d : B) (xs ys : List A) (i : ℕ) → slice_get ys i ≡ slice_get xs i → slice_index_or (map f ys) i d ≡ slice_index_or (map f xs) i d
 same_mapped f d xs ys i e = mapped f d ys i ∙ ap (seen_as f d) e ∙ sym (mapped f d xs i)
 
-module _ {C O : Type 0} (tells : Bool) (state : C → CellState) (offers : O → Offers) (s : Store C O) where
+module _ {C O : Type 0} (tells : Bool) (state : C → CellState) {says : Bool} (offers : O → OffersOf says) (s : Store C O) where
   pub stays : (t other : ℕ) (e : Entry) (p q : Pass C) → WritesAs tells state offers s p t e → FollowsWriting tells state offers s other p q → t ≢ other → InnerIsFree (view q) → WritesAs tells state offers s q t e
   stays t other e p q h follows ne free = record {
     published = h.published;

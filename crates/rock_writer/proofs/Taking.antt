@@ -6,7 +6,7 @@ use Rattle.core_model.specs.Tabs.{InnerIsFree, tab_at}
 use Rattle.store_rule.specs.declared.store.Pass.{Pass}
 use Rattle.store_rule.specs.declared.store.Store.{Store}
 use Rattle.tab_states.specs.Desks.{draft_at}
-use Rattle.store_rule.specs.Ground.{Ground, Offers}
+use Rattle.store_rule.specs.Ground.{GroundOf, OffersOf, is_said}
 use Rattle.store_rule.specs.Passes.{IsOf, basis}
 use Rattle.rock_writer.specs.Appending.{IsFull, place_of, room_in}
 use Rattle.rock_writer.specs.Drafting.{DeskMoves}
@@ -15,8 +15,8 @@ use Rattle.rock_writer.specs.Flushing.{MayFlush}
 use Rattle.rock_writer.proofs.Publishing.{same_view}
 use Rattle.rock_writer.proofs.Sizes as sizes
 
-module _ {C O : Type 0} (tells : Bool) (state : C → CellState) (offers : O → Offers) (s : Store C O) (t : ℕ) (e : Entry) where
-  abbrev g : Ground (List ℕ)
+module _ {C O : Type 0} (tells : Bool) (state : C → CellState) {says : Bool} (offers : O → OffersOf says) (s : Store C O) (t : ℕ) (e : Entry) where
+  abbrev g : GroundOf (is_said says tells) (List ℕ)
   g = basis tells state offers s
 
   pub has_slot : (fewest : ℕ) (p : Pass C) → WritesWith tells state offers s p t fewest e → 40 < g.slot

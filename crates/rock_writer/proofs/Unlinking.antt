@@ -17,7 +17,7 @@ use Rattle.core_model.proofs.Tabs.{tab_there}
 use Rattle.store_rule.specs.declared.store.Pass.{Pass}
 use Rattle.store_rule.specs.declared.store.Store.{Store}
 use Rattle.tab_states.specs.declared.tabs.WritingAt.{WritingAt}
-use Rattle.store_rule.specs.Ground.{Ground, Offers}
+use Rattle.store_rule.specs.Ground.{GroundOf, OffersOf, is_said}
 use Rattle.store_rule.specs.Passes.{IsOf, May, basis, view}
 use Rattle.tab_states.specs.Tabs.{head_of, writing_at, writing_of}
 use Rattle.store_rule.proofs.Passing.{pass_of}
@@ -40,8 +40,8 @@ pub first_is : (ps rs : List ℕ) (o : Option ℕ) → (length ps ≡ 0 → o �
 first_is [] rs o f h = f refl
 first_is (x ∷ xs) rs o f h = h (λ e. cc)
 
-module _ {C O : Type 0} (tells : Bool) (state : C → CellState) (offers : O → Offers) (s : Store C O) (p : Pass C) (t : ℕ) (h : MayHalt tells state offers s p t) where
-  abbrev g : Ground (List ℕ)
+module _ {C O : Type 0} (tells : Bool) (state : C → CellState) {says : Bool} (offers : O → OffersOf says) (s : Store C O) (p : Pass C) (t : ℕ) (h : MayHalt tells state offers s p t) where
+  abbrev g : GroundOf (is_said says tells) (List ℕ)
   g = basis tells state offers s
 
   abbrev w : Writer (List ℕ)

@@ -5,7 +5,7 @@ use Rattle.entry_cut.specs.Content.{room_of}
 use Rattle.core_model.specs.declared.view.View.{View}
 use Rattle.store_rule.specs.declared.store.Pass.{Pass}
 use Rattle.store_rule.specs.declared.store.Store.{Store}
-use Rattle.store_rule.specs.Ground.{Ground, Offers, fits}
+use Rattle.store_rule.specs.Ground.{GroundOf, OffersOf, fits, is_said}
 use Rattle.store_rule.specs.Passes.{basis, view}
 use Rattle.rock_writer.specs.declared.fault.WriteFault.{WriteFault}
 use Rattle.rock_writer.specs.declared.fault.WriteFault.TheVariants.{Full, Large}
@@ -14,19 +14,19 @@ use Rattle.rock_writer.specs.Flushing.{Flushed, IsAtLimit, NotFlushed}
 use Rattle.rock_writer.specs.Halting.{Halts}
 
 -- how many slots of an entry are published: each that is full and has bytes behind it
-abbrev pub place_of : {X : Type 0} → Ground X → Entry → ℕ
+abbrev pub place_of : {X : Type 0} {says : Bool} → GroundOf says X → Entry → ℕ
 place_of g e = (size_of g e - 1) / room_of g.slot
 
 -- the slot that is being filled is full
-abbrev pub IsFull : {X : Type 0} → Ground X → Entry → Type 0
+abbrev pub IsFull : {X : Type 0} {says : Bool} → GroundOf says X → Entry → Type 0
 IsFull g e = size_of g e ≡ (place_of g e + 1) * room_of g.slot
 
 -- for how many bytes it has room
-abbrev pub room_in : {X : Type 0} → Ground X → Entry → ℕ
+abbrev pub room_in : {X : Type 0} {says : Bool} → GroundOf says X → Entry → ℕ
 room_in g e = (place_of g e + 1) * room_of g.slot - size_of g e
 
-module _ {C O : Type 0} (tells : Bool) (state : C → CellState) (offers : O → Offers) (s : Store C O) (t : ℕ) (e : Entry) where
-  abbrev g : Ground (List ℕ)
+module _ {C O : Type 0} (tells : Bool) (state : C → CellState) {says : Bool} (offers : O → OffersOf says) (s : Store C O) (t : ℕ) (e : Entry) where
+  abbrev g : GroundOf (is_said says tells) (List ℕ)
   g = basis tells state offers s
 
   -- the tab writes an entry, and these bytes come next

@@ -1,5 +1,5 @@
 -- An entry is begun, or its anchor is not taken.
-use Rattle.std.specs.Prelude.{Bool, List, false, length, true, ◌+◌, ◌<◌, ◌≡◌, ◌≢◌, ◌≤◌, ◌⊎◌, ℕ}
+use Rattle.std.specs.Prelude.{[], Bool, List, false, length, true, ◌+◌, ◌<◌, ◌≡◌, ◌≢◌, ◌≤◌, ◌⊎◌, ℕ}
 use Rattle.lock_word.specs.Words.{epoch_number, is_idle, is_vacant, word_number}
 use Rattle.lock_word.specs.declared.word.Word.{Word}
 use Rattle.rock_disk.specs.Cell.{CellState}
@@ -12,7 +12,7 @@ use Rattle.core_model.specs.declared.tab.Tab.TheVariants.{Free}
 use Rattle.core_model.specs.declared.view.View.{View}
 use Rattle.store_rule.specs.declared.store.Pass.{Pass}
 use Rattle.store_rule.specs.declared.store.Store.{Store}
-use Rattle.store_rule.specs.Ground.{Ground, IsNeeded, MayName, Offers, anchor_for, url_of}
+use Rattle.store_rule.specs.Ground.{GroundOf, IsNeeded, MayName, OffersOf, When, anchor_for, is_said, url_of}
 use Rattle.store_rule.specs.Passes.{IsOf, basis, view}
 use Rattle.store_rule.specs.Told.{Steps}
 use Rattle.store_rule.specs.Calls.{IsFresh}
@@ -24,11 +24,11 @@ use Rattle.rock_writer.specs.declared.fault.BeginFault.TheVariants.{Busy, LongUr
 use Rattle.rock_writer.specs.Entries.{Entry, WritesAs}
 
 -- a slot has no room for the metadata of the URL
-abbrev pub IsTooLong : {X : Type 0} → Ground X → List ℕ → Type 0
+abbrev pub IsTooLong : {X : Type 0} {says : Bool} → GroundOf says X → List ℕ → Type 0
 IsTooLong g url = room_of g.slot < 32 + length url
 
 -- A free tab may take this anchor.
-pub record MayTakeAnchor {C O : Type 0} (tells : Bool) (state : C → CellState) (offers : O → Offers) (s : Store C O) (p : Pass C) (t a : ℕ) : Type 0 where
+pub record MayTakeAnchor {C O : Type 0} (tells : Bool) (state : C → CellState) {says : Bool} (offers : O → OffersOf says) (s : Store C O) (p : Pass C) (t a : ℕ) : Type 0 where
   pub own : IsOf tells state offers s p
   pub below : t < inner
   pub free : tab_at (view p) t ≡ Free
@@ -37,23 +37,23 @@ pub record MayTakeAnchor {C O : Type 0} (tells : Bool) (state : C → CellState)
   pub name : MayName (basis tells state offers s) (view p) a
 
 -- The inner tab is free, or has an entry to free of which no slot was given back yet.
-abbrev pub MayClear : {C O : Type 0} → Bool → (C → CellState) → (O → Offers) → Store C O → Pass C → Type 0
+abbrev pub MayClear : {C O : Type 0} {says : Bool} → Bool → (C → CellState) → (O → OffersOf says) → Store C O → Pass C → Type 0
 MayClear tells state offers s p = (IsOf tells state offers s p × InnerIsFree (view p)) ⊎ MayFreeChain tells state offers s p
 
--- The tab is free, and the URL is that of the offer. Where it leaves room in a slot, a store that fits has as many slots for the offer at its anchor
+-- The tab is free, and where it is known what is offered, the URL is that of the offer. Where it leaves room in a slot, a store that fits has as many slots for the offer at its anchor
 -- as are needed.
-pub record MayBegin {C O : Type 0} (tells : Bool) (state : C → CellState) (offers : O → Offers) (s : Store C O) (p : Pass C) (t offer : ℕ) (url : List ℕ) : Type 0 where
+pub record MayBegin {C O : Type 0} (tells : Bool) (state : C → CellState) {says : Bool} (offers : O → OffersOf says) (s : Store C O) (p : Pass C) (t offer : ℕ) (url : List ℕ) : Type 0 where
   pub own : IsOf tells state offers s p
   pub below : t < inner
   pub free : tab_at (view p) t ≡ Free
   pub inner_free : InnerIsFree (view p)
   pub from : (basis tells state offers s).setting.slots ≤ offer
-  pub url_is : url_of (basis tells state offers s) offer ≡ url
+  pub url_is : When (is_said says tells) (url_of (basis tells state offers s) offer ≡ url)
   pub good : IsUrl url
   pub needed : LeavesRoom (basis tells state offers s).slot url → IsNeeded (basis tells state offers s) offer (anchor_for (basis tells state offers s) url)
   pub name : MayName (basis tells state offers s) (view p) (anchor_for (basis tells state offers s) url)
 
-module _ {X : Type 0} (g : Ground X) (t a : ℕ) (v : View X) where
+module _ {X : Type 0} {says : Bool} (g : GroundOf says X) (t a : ℕ) (v : View X) where
   -- it was vacant
   pub record WasVacant (n : ℕ) (taken w : View X) : Type 0 where
     pub vacant : is_vacant n ≡ true
@@ -115,9 +115,9 @@ module _ {X : Type 0} (g : Ground X) (t a : ℕ) (v : View X) where
   NotTaken (Busy looked found) w = (InUse looked found w ⊎ Overtaken looked found w) × AreFresh looked found w
   NotTaken (Spent versions) w = NoVersion versions w
 
-module _ {C O : Type 0} (tells : Bool) (state : C → CellState) (offers : O → Offers) (s : Store C O) (t offer : ℕ) (url : List ℕ) (is_durable : Bool) (p q : Pass C) where
+module _ {C O : Type 0} (tells : Bool) (state : C → CellState) {says : Bool} (offers : O → OffersOf says) (s : Store C O) (t offer : ℕ) (url : List ℕ) (is_durable : Bool) (p q : Pass C) where
   abbrev pub begun : ℕ → Entry
-  begun version = record { anchor = anchor_for (basis tells state offers s) url; version = version; offer = offer; is_durable = is_durable; taken = 0 }
+  begun version = record { anchor = anchor_for (basis tells state offers s) url; version = version; offer = offer; is_durable = is_durable; taken = 0; url = url; body = [] }
 
   -- The anchor was taken and the entry named, and the tab writes it.
   pub record Began (version : ℕ) : Type 0 where

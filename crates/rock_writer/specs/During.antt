@@ -4,7 +4,7 @@ use Rattle.rock_disk.specs.Cell.{CellState}
 use Rattle.core_model.specs.declared.view.View.{View}
 use Rattle.store_rule.specs.declared.store.Pass.{Pass}
 use Rattle.store_rule.specs.declared.store.Store.{Store}
-use Rattle.store_rule.specs.Ground.{Ground, Offers}
+use Rattle.store_rule.specs.Ground.{GroundOf, OffersOf, is_said}
 use Rattle.store_rule.specs.Passes.{basis}
 use Rattle.slice_chain.specs.During.{IsLeftDuring}
 use Rattle.slice_chain.specs.Writes.{WroteSlot}
@@ -15,11 +15,11 @@ use Rattle.rock_writer.specs.Entries.{Entry}
 use Rattle.rock_writer.specs.Finishing.{Finished, NotFinished}
 
 -- while the slot was written so
-abbrev pub LeftDuring : (g : Ground (List ℕ)) (t : ℕ) {durable done : Bool} {v w : View (List ℕ)} → WroteSlot g t v durable done w → Type 0
+abbrev pub LeftDuring : {says : Bool} (g : GroundOf says (List ℕ)) (t : ℕ) {durable done : Bool} {v w : View (List ℕ)} → WroteSlot g t v durable done w → Type 0
 LeftDuring g t wrote = IsLeftDuring g t wrote.slot wrote.out.before wrote.middle
 
-module _ {C O : Type 0} (tells : Bool) (state : C → CellState) (offers : O → Offers) (s : Store C O) (t : ℕ) (e : Entry) (p q : Pass C) where
-  abbrev g : Ground (List ℕ)
+module _ {C O : Type 0} (tells : Bool) (state : C → CellState) {says : Bool} (offers : O → OffersOf says) (s : Store C O) (t : ℕ) (e : Entry) (p q : Pass C) where
+  abbrev g : GroundOf (is_said says tells) (List ℕ)
   g = basis tells state offers s
 
   -- An append writes a slot where the one that was being filled was full. The write was done, or it failed.

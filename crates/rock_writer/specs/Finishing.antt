@@ -8,7 +8,7 @@ use Rattle.core_model.specs.declared.moves.Move.TheVariants.{Raise}
 use Rattle.core_model.specs.declared.view.View.{View}
 use Rattle.store_rule.specs.declared.store.Pass.{Pass}
 use Rattle.store_rule.specs.declared.store.Store.{Store}
-use Rattle.store_rule.specs.Ground.{Ground, Offers, fits}
+use Rattle.store_rule.specs.Ground.{GroundOf, OffersOf, fits, is_said}
 use Rattle.store_rule.specs.Passes.{IsOf, basis, view}
 use Rattle.core_model.specs.AllowedByView.{StoredStart}
 use Rattle.core_model.specs.Tabs.{InnerIsFree, inner, tab_at}
@@ -26,7 +26,7 @@ use Rattle.rock_writer.specs.Entries.{Entry, WritesAs, body_in}
 use Rattle.rock_writer.specs.Flushing.{LacksSlot, SlotFor, WrotePiece}
 use Rattle.rock_writer.specs.Halting.{Halts, Parted}
 
-module _ {X : Type 0} (g : Ground X) (t : ℕ) where
+module _ {X : Type 0} {says : Bool} (g : GroundOf says X) (t : ℕ) where
   -- The last piece was written into its slot, and the slot published with none behind it.
   pub record WroteLast (hand : ℕ) (durable : Bool) (v w : View X) (hand_after : ℕ) : Type 0 where
     pub slot : ℕ
@@ -55,8 +55,8 @@ abbrev pub version_of : Ended → ℕ
 version_of (Stored version) = version
 version_of (Doomed version) = version
 
-module _ {C O : Type 0} (tells : Bool) (state : C → CellState) (offers : O → Offers) (s : Store C O) (t : ℕ) (e : Entry) where
-  abbrev g : Ground (List ℕ)
+module _ {C O : Type 0} (tells : Bool) (state : C → CellState) {says : Bool} (offers : O → OffersOf says) (s : Store C O) (t : ℕ) (e : Entry) where
+  abbrev g : GroundOf (is_said says tells) (List ℕ)
   g = basis tells state offers s
 
   -- the whole body was taken

@@ -11,7 +11,7 @@ use Rattle.core_model.specs.declared.moves.Move.TheVariants.{Raise}
 use Rattle.core_model.specs.declared.view.View.{View}
 use Rattle.store_rule.specs.declared.store.Pass.{Pass}
 use Rattle.store_rule.specs.declared.store.Store.{Store}
-use Rattle.store_rule.specs.Ground.{Ground, Offers, cut_of}
+use Rattle.store_rule.specs.Ground.{GroundOf, OffersOf}
 use Rattle.store_rule.specs.Passes.{basis}
 use Rattle.store_rule.specs.Told.{Steps}
 use Rattle.slice_chain.specs.Links.{Published}
@@ -19,7 +19,7 @@ use Rattle.slice_chain.specs.Writes.{WroteSlot, reserved_first}
 use Rattle.rock_writer.specs.declared.fault.WriteFault.{WriteFault}
 use Rattle.rock_writer.specs.declared.fault.WriteFault.TheVariants.{Fault, Full, Large}
 use Rattle.rock_writer.specs.Drafting.{IsWhole}
-use Rattle.rock_writer.specs.Entries.{Entry, Rests, WritesAs, body_in}
+use Rattle.rock_writer.specs.Entries.{Entry, Rests, WritesAs, body_in, cut_in}
 use Rattle.entry_cut.specs.Content.{count, room_of}
 use Rattle.tab_states.specs.Desks.{draft_at}
 use Rattle.rock_writer.specs.Reserving.{RanOut, Reserved}
@@ -35,7 +35,7 @@ next_behind (Slot slot) = Some slot
 next_behind (End size) = None
 
 -- A tab that writes has filled a piece of its entry, and reserved this slot for it and the one that it names.
-pub record MayPublishPiece {C O : Type 0} (tells : Bool) (state : C → CellState) (offers : O → Offers) (s : Store C O) (p : Pass C) (t slot : ℕ) (behind : Behind) : Type 0 where
+pub record MayPublishPiece {C O : Type 0} (tells : Bool) (state : C → CellState) {says : Bool} (offers : O → OffersOf says) (s : Store C O) (p : Pass C) (t slot : ℕ) (behind : Behind) : Type 0 where
   pub entry : Entry
   pub published : List ℕ
   pub end : Link
@@ -43,18 +43,18 @@ pub record MayPublishPiece {C O : Type 0} (tells : Bool) (state : C → CellStat
   pub whole : IsWhole (basis tells state offers s) p.desks t entry (length published) (first_of (published ++ slot ∷ [])) behind
 
 -- A tab writes an entry whose next piece is full, and more bytes of it come.
-pub record MayFlush {C O : Type 0} (tells : Bool) (state : C → CellState) (offers : O → Offers) (s : Store C O) (p : Pass C) (t : ℕ) (e : Entry) : Type 0 where
+pub record MayFlush {C O : Type 0} (tells : Bool) (state : C → CellState) {says : Bool} (offers : O → OffersOf says) (s : Store C O) (p : Pass C) (t : ℕ) (e : Entry) : Type 0 where
   pub writes : WritesAs tells state offers s p t e
   pub full : (draft_at p.desks t).held ≡ room_of (basis tells state offers s).slot
   pub more : e.taken < length (body_in (basis tells state offers s) e)
 
 -- A tab writes an entry that has at most as many slots as its content takes, and as an entry may have, with one for its piece and one behind it.
-pub record MayReserveBoth {C O : Type 0} (tells : Bool) (state : C → CellState) (offers : O → Offers) (s : Store C O) (p : Pass C) (t : ℕ) : Type 0 where
+pub record MayReserveBoth {C O : Type 0} (tells : Bool) (state : C → CellState) {says : Bool} (offers : O → OffersOf says) (s : Store C O) (p : Pass C) (t : ℕ) : Type 0 where
   pub entry : Entry
   pub writes : WritesAs tells state offers s p t entry
-  pub within : length writes.published + 2 ≤ min (count (cut_of (basis tells state offers s) entry.offer 0 0)) (min 4096 (basis tells state offers s).setting.slots)
+  pub within : length writes.published + 2 ≤ min (count (cut_in (basis tells state offers s) entry 0 0)) (min 4096 (basis tells state offers s).setting.slots)
 
-module _ {X : Type 0} (g : Ground X) (t : ℕ) where
+module _ {X : Type 0} {says : Bool} (g : GroundOf says X) (t : ℕ) where
   -- the tab has reserved the slot for its next piece already: the last published one names it
   pub record HasSlot (hand : ℕ) (v : View X) (slot : ℕ) (w : View X) (hand_after : ℕ) : Type 0 where
     pub first : reserved_first (tab_at v t) ≡ Some slot
@@ -133,5 +133,5 @@ module _ {X : Type 0} (g : Ground X) (t : ℕ) where
   NotFlushed hand durable v Fault w hand_after = FailedToFlush hand durable v w hand_after
 
 -- the last piece that an entry may have, as many as there are slots, and 4,096 at most
-abbrev pub IsAtLimit : {X : Type 0} → Ground X → (place : ℕ) → Type 0
+abbrev pub IsAtLimit : {X : Type 0} {says : Bool} → GroundOf says X → (place : ℕ) → Type 0
 IsAtLimit g place = min 4096 g.setting.slots ≤ place + 1

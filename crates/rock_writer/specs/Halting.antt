@@ -13,7 +13,7 @@ use Rattle.core_model.specs.declared.tab.Writer.{Writer}
 use Rattle.core_model.specs.declared.view.View.{View}
 use Rattle.store_rule.specs.declared.store.Pass.{Pass}
 use Rattle.store_rule.specs.declared.store.Store.{Store}
-use Rattle.store_rule.specs.Ground.{Can, Ground, Offers}
+use Rattle.store_rule.specs.Ground.{Can, GroundOf, OffersOf}
 use Rattle.store_rule.specs.Passes.{IsOf, basis, view}
 use Rattle.tab_states.specs.Tabs.{head_of, is_last}
 use Rattle.store_rule.specs.Told.{Steps}
@@ -34,7 +34,7 @@ abbrev pub first_of : {X : Type 0} → Tab X → Option ℕ
 first_of (Writing w) = unlinked w.published w.reserved
 first_of _ = None
 
-module _ {X : Type 0} (g : Ground X) (t : ℕ) where
+module _ {X : Type 0} {says : Bool} (g : GroundOf says X) (t : ℕ) where
   -- a slot was given back, if there is one
   pub record GaveOne (slot : ℕ) (v w : View X) : Type 0 where
     pub found : ℕ
@@ -83,7 +83,7 @@ module _ {X : Type 0} (g : Ground X) (t : ℕ) where
     pub raises : Steps g middle (Raise t Halted) word raised
     pub parted : Parted raised w
 
-module _ {C O : Type 0} (tells : Bool) (state : C → CellState) (offers : O → Offers) (s : Store C O) (p : Pass C) (t : ℕ) where
+module _ {C O : Type 0} (tells : Bool) (state : C → CellState) {says : Bool} (offers : O → OffersOf says) (s : Store C O) (p : Pass C) (t : ℕ) where
   pub record MayGive (slot : Option ℕ) : Type 0 where
     pub own : IsOf tells state offers s p
     pub can : (x : ℕ) → slot ≡ Some x → Can (basis tells state offers s) (view p) (Disown t x)

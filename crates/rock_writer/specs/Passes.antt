@@ -5,10 +5,10 @@ use Rattle.core_model.specs.Tabs.{inner}
 use Rattle.store_rule.specs.Calls.{Others}
 use Rattle.store_rule.specs.declared.store.Pass.{Pass}
 use Rattle.store_rule.specs.declared.store.Store.{Store}
-use Rattle.store_rule.specs.Ground.{Offers}
+use Rattle.store_rule.specs.Ground.{OffersOf}
 use Rattle.store_rule.specs.Passes.{IsOf, hand, view}
 
-module _ {C O : Type 0} (tells : Bool) (state : C → CellState) (offers : O → Offers) where
+module _ {C O : Type 0} (tells : Bool) (state : C → CellState) {says : Bool} (offers : O → OffersOf says) where
   -- The pass is of the store still. Every tab but this and the inner one is as it was, with the word that it left, its buffer and its
   -- draft.
   pub record FollowsWriting (s : Store C O) (t : ℕ) (p q : Pass C) : Type 0 where

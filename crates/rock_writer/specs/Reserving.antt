@@ -1,13 +1,13 @@
 -- A slot that is needed is reserved, or there is none.
-use Rattle.std.specs.Prelude.{◌≡◌, ◌⊎◌, ℕ}
+use Rattle.std.specs.Prelude.{Bool, ◌≡◌, ◌⊎◌, ℕ}
 use Rattle.core_model.specs.SlotMoves.{reserves}
 use Rattle.core_model.specs.Tabs.{tab_at, with_tab}
 use Rattle.core_model.specs.declared.view.View.{View}
-use Rattle.store_rule.specs.Ground.{Ground}
+use Rattle.store_rule.specs.Ground.{GroundOf}
 use Rattle.free_set.specs.Claims.{Claimed, FoundAllTaken, searched_to}
 use Rattle.slice_chain.specs.Victims.{Evicted, NoneIdle, hand_in}
 
-module _ {X : Type 0} (g : Ground X) (t hand : ℕ) (v : View X) where
+module _ {X : Type 0} {says : Bool} (g : GroundOf says X) (t hand : ℕ) (v : View X) where
   -- a free slot was claimed
   pub record ByClaim (slot : ℕ) (w : View X) (hand_after : ℕ) : Type 0 where
     pub claimed : Claimed g t v slot w

@@ -18,7 +18,7 @@ use crate::flushing::flush;
 use crate::halting::halt;
 use rock_disk::{Cell, Station};
 use slot_cell::HEADER_SIZE;
-use store_rule::{Origin, Pass, Store};
+use store_rule::{AnyOrigin, Pass, Store};
 
 /// Takes bytes of the body of the entry that a tab writes, and answers how many: at least one where there
 /// are any, and no more than fit into the slot that is being filled. Where that slot is full, it is written
@@ -29,7 +29,7 @@ use store_rule::{Origin, Pass, Store};
 /// # Errors
 ///
 /// The slot that is being filled is full and was not published. The entry is halted, and the tab free.
-pub fn append<C: Cell, O: Origin, St: Station<C = C>>(
+pub fn append<C: Cell, O: AnyOrigin, St: Station<C = C>>(
     store: &Store<C, O>,
     pass: &mut Pass<C>,
     station: &mut St,
@@ -66,7 +66,7 @@ pub fn append<C: Cell, O: Origin, St: Station<C = C>>(
 }
 
 // Whether the slot that a tab fills has no room left.
-fn is_full<C: Cell, O: Origin>(store: &Store<C, O>, pass: &Pass<C>, tab: u8) -> bool
+fn is_full<C: Cell, O: AnyOrigin>(store: &Store<C, O>, pass: &Pass<C>, tab: u8) -> bool
     requires below { tab < 9 }
     requires slot { HEADER_SIZE < (basis C.tells C.state O.offers store.now).slot }
     ensures { result ≡ ((draft_at pass.now.desks tab).held == room_of (basis C.tells C.state O.offers store.now).slot) }

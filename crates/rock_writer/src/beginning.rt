@@ -19,7 +19,7 @@ use rw_anchor::{draw, look, take};
 use slice_chain::{free_chain, name_entry};
 use slot_cell::HEADER_SIZE;
 use store_key::{anchor_of, key_of};
-use store_rule::{Origin, Pass, Store};
+use store_rule::{AnyOrigin, Pass, Store};
 use swap_meta::META_SIZE;
 
 /// Begins an entry of the response that the origin has under this offer, at the anchor of its URL, and
@@ -30,7 +30,7 @@ use swap_meta::META_SIZE;
 ///
 /// In this order: a slot has no room for the metadata; the anchor is in use, or another pass came first; there is no version
 /// left. The tab is free, and nothing but the counter of versions has changed.
-pub fn begin<C: Cell, O: Origin>(
+pub fn begin<C: Cell, O: AnyOrigin>(
     store: &Store<C, O>,
     pass: &mut Pass<C>,
     tab: u8,
@@ -65,7 +65,7 @@ pub fn begin<C: Cell, O: Origin>(
 }
 
 // Whether a slot has no room for the metadata of a URL.
-fn is_too_long<C: Cell, O: Origin>(store: &Store<C, O>, url: &[u8]) -> bool
+fn is_too_long<C: Cell, O: AnyOrigin>(store: &Store<C, O>, url: &[u8]) -> bool
     ensures long { result ≡ true → IsTooLong (basis C.tells C.state O.offers store.now) url.now }
     ensures short { result ≡ false → IsTooLong (basis C.tells C.state O.offers store.now) url.now → ⊥ }
 {
@@ -82,7 +82,7 @@ fn is_open(word: &Word) -> bool
 }
 
 // Takes an anchor for a new entry, and answers its version.
-fn take_anchor<C: Cell, O: Origin>(
+fn take_anchor<C: Cell, O: AnyOrigin>(
     store: &Store<C, O>,
     pass: &mut Pass<C>,
     tab: u8,
@@ -118,7 +118,7 @@ fn take_anchor<C: Cell, O: Origin>(
 }
 
 // Gives back the slots that the inner tab has, if it has any.
-fn clear<C: Cell, O: Origin>(store: &Store<C, O>, pass: &mut Pass<C>)
+fn clear<C: Cell, O: AnyOrigin>(store: &Store<C, O>, pass: &mut Pass<C>)
     requires { MayClear C.tells C.state O.offers store.now pass.old }
     ensures free { InnerIsFree (view pass.old) → pass.new ≡ pass.old }
     ensures freed { (InnerIsFree (view pass.old) → ⊥) → Freed (basis C.tells C.state O.offers store.now) (view pass.old) (view pass.new) }

@@ -5,10 +5,9 @@ ghost use Rattle.core_model.specs.Tabs.{inner};
 ghost use Rattle.entry_cut.specs.Content.{LeavesRoom, image, room_of};
 ghost use Rattle.entry_cut.specs.Labels.{Fits, next_of};
 ghost use Rattle.rock_writer.specs.Drafting.{DeskMoves, IsBegun, IsWhole};
-ghost use Rattle.rock_writer.specs.Entries.{Continues, Drafts, Entry, with_taken};
+ghost use Rattle.rock_writer.specs.Entries.{Continues, Drafts, Entry, cut_in, with_taken};
 ghost use Rattle.slot_cell.specs.declared.header.TheConstants.{HEADER_SIZE};
 ghost use Rattle.tab_states.specs.Desks.{buffer_at, draft_at};
-ghost use Rattle.store_rule.specs.Ground.{cut_of};
 ghost use Rattle.store_rule.specs.Lending.{with_bytes};
 ghost use Rattle.store_rule.specs.Passes.{IsOf, basis};
 ghost use Rattle.swap_meta.specs.Meta.{meta_bytes};
@@ -18,12 +17,12 @@ use pass_laws::{drafts_keep_passes, lending_keeps_passes};
 use rock_disk::Cell;
 use slot_cell::HEADER_SIZE;
 use store_key::keys_have_16_bytes;
-use store_rule::{Origin, Pass, Store};
+use store_rule::{AnyOrigin, Pass, Store};
 use swap_meta::{write_meta, written_meta_is_spelled};
 use tab_states::Draft;
 
 /// Begins the first piece of an entry: its metadata lies in the buffer afterwards, and nothing else of it.
-pub(crate) fn start<C: Cell, O: Origin>(
+pub(crate) fn start<C: Cell, O: AnyOrigin>(
     store: &Store<C, O>,
     pass: &mut Pass<C>,
     tab: u8,
@@ -67,7 +66,7 @@ fn put_meta<C>(pass: &mut Pass<C>, tab: u8, key: &[u8; 16], url: &[u8]) -> usize
 }
 
 /// Takes as many bytes of the body as the piece has room for, and answers how many.
-pub(crate) fn fill<C: Cell, O: Origin>(
+pub(crate) fn fill<C: Cell, O: AnyOrigin>(
     store: &Store<C, O>,
     pass: &mut Pass<C>,
     tab: u8,
@@ -111,7 +110,7 @@ fn put<C>(pass: &mut Pass<C>, tab: u8, at: usize, bytes: &[u8])
 }
 
 /// Completes the image of the piece that a tab has filled, in place.
-pub(crate) fn seal<C: Cell, O: Origin>(
+pub(crate) fn seal<C: Cell, O: AnyOrigin>(
     store: &Store<C, O>,
     pass: &mut Pass<C>,
     tab: u8,
@@ -126,7 +125,7 @@ pub(crate) fn seal<C: Cell, O: Origin>(
     requires first { first < 2 ^ 31 }
     requires next { Fits behind }
     ensures sealed { (e : Entry) (place : ℕ) → e.version ≡ version → IsWhole (basis C.tells C.state O.offers store.now) pass.old.desks tab e place first behind
-        → buffer_at pass.new.desks tab ≡ image (cut_of (basis C.tells C.state O.offers store.now) e.offer version first) place (next_of behind) }
+        → buffer_at pass.new.desks tab ≡ image (cut_in (basis C.tells C.state O.offers store.now) e version first) place (next_of behind) }
     ensures draft { draft_at pass.new.desks tab ≡ draft_at pass.old.desks tab }
     ensures kept { DeskMoves tab pass.old pass.new }
     ensures own { IsOf C.tells C.state O.offers store.now pass.new }
@@ -144,7 +143,7 @@ pub(crate) fn seal<C: Cell, O: Origin>(
 }
 
 /// Begins the next piece: nothing of it is there yet.
-pub(crate) fn next_piece<C: Cell, O: Origin>(store: &Store<C, O>, pass: &mut Pass<C>, tab: u8)
+pub(crate) fn next_piece<C: Cell, O: AnyOrigin>(store: &Store<C, O>, pass: &mut Pass<C>, tab: u8)
     requires own { IsOf C.tells C.state O.offers store.now pass.old }
     requires below { tab < inner }
     ensures emptied { draft_at pass.new.desks tab ≡ record (draft_at pass.old.desks tab) { held = 0 } }

@@ -21,7 +21,7 @@ use rock_io::Failed;
 use rw_anchor::advance;
 use slot_cell::HEADER_SIZE;
 use store_key::keys_have_16_bytes;
-use store_rule::{Origin, Pass, Store};
+use store_rule::{AnyOrigin, Pass, Store};
 use swap_meta::written_meta_is_spelled;
 
 /// Writes the last piece of an entry whose whole body was taken, syncs it if the entry is to be durable,
@@ -31,7 +31,7 @@ use swap_meta::written_meta_is_spelled;
 /// # Errors
 ///
 /// The last piece was not published. The entry is halted. The cause is never that the entry is too large.
-pub fn finish<C: Cell, O: Origin, St: Station<C = C>>(
+pub fn finish<C: Cell, O: AnyOrigin, St: Station<C = C>>(
     store: &Store<C, O>,
     pass: &mut Pass<C>,
     station: &mut St,
@@ -64,7 +64,7 @@ pub fn finish<C: Cell, O: Origin, St: Station<C = C>>(
 }
 
 /// Gives up the entry that a tab writes. The entry is halted, and the tab free.
-pub fn abort<C: Cell, O: Origin>(store: &Store<C, O>, pass: &mut Pass<C>, tab: u8)
+pub fn abort<C: Cell, O: AnyOrigin>(store: &Store<C, O>, pass: &mut Pass<C>, tab: u8)
     requires { (e : Entry) × WritesAs C.tells C.state O.offers store.now pass.old tab e }
     ensures halts { Halts (basis C.tells C.state O.offers store.now) tab (view pass.old) (view pass.new) }
     ensures others { FollowsTab C.tells C.state O.offers store.now tab pass.old pass.new }
@@ -86,7 +86,7 @@ fn ended(version: u32, word: &Word) -> Ended
 }
 
 // Writes and publishes the last piece of an entry.
-fn write_last<C: Cell, O: Origin, St: Station<C = C>>(
+fn write_last<C: Cell, O: AnyOrigin, St: Station<C = C>>(
     store: &Store<C, O>,
     pass: &mut Pass<C>,
     station: &mut St,
@@ -121,7 +121,7 @@ fn write_last<C: Cell, O: Origin, St: Station<C = C>>(
 }
 
 // How many bytes the content has that a tab has taken.
-fn size<C: Cell, O: Origin>(store: &Store<C, O>, pass: &Pass<C>, tab: u8) -> u64
+fn size<C: Cell, O: AnyOrigin>(store: &Store<C, O>, pass: &Pass<C>, tab: u8) -> u64
     requires { (e : Entry) × WritesAs C.tells C.state O.offers store.now pass.now tab e }
     ensures { (e : Entry) → WritesAs C.tells C.state O.offers store.now pass.now tab e → result ≡ size_of (basis C.tells C.state O.offers store.now) e }
 {

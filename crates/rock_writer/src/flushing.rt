@@ -26,7 +26,7 @@ use rock_io::Failed;
 use rw_anchor::advance;
 use slice_chain::{NoVictim, publish, write_slot};
 use store_key::keys_have_16_bytes;
-use store_rule::{Origin, Pass, Store};
+use store_rule::{AnyOrigin, Pass, Store};
 use swap_meta::written_meta_is_spelled;
 use tab_states::WritingAt;
 
@@ -39,7 +39,7 @@ const MOST_ENTRY_SLOTS: u32 = 4_096;
 /// # Errors
 ///
 /// No slot was found free, and no entry idle.
-pub(crate) fn slot_for_piece<C: Cell, O: Origin>(
+pub(crate) fn slot_for_piece<C: Cell, O: AnyOrigin>(
     store: &Store<C, O>,
     pass: &mut Pass<C>,
     tab: u8,
@@ -68,7 +68,7 @@ pub(crate) fn slot_for_piece<C: Cell, O: Origin>(
 /// # Errors
 ///
 /// It is not published, for this cause. What the tab has reserved it has still.
-pub(crate) fn flush<C: Cell, O: Origin, St: Station<C = C>>(
+pub(crate) fn flush<C: Cell, O: AnyOrigin, St: Station<C = C>>(
     store: &Store<C, O>,
     pass: &mut Pass<C>,
     station: &mut St,
@@ -111,7 +111,7 @@ pub(crate) fn flush<C: Cell, O: Origin, St: Station<C = C>>(
 }
 
 // Lets an entry be read of which a first slot was published, where none was before.
-fn raise_first<C: Cell, O: Origin>(store: &Store<C, O>, pass: &mut Pass<C>, tab: u8, published: u32)
+fn raise_first<C: Cell, O: AnyOrigin>(store: &Store<C, O>, pass: &mut Pass<C>, tab: u8, published: u32)
     requires own { IsOf C.tells C.state O.offers store.now pass.old }
     requires may { published ≡ 0 → May C.tells C.state O.offers store.now pass.old (Raise tab Appending) }
     ensures first { published ≡ 0 → (n : ℕ) × Made C.tells C.state O.offers store.now pass.old (Raise tab Appending) n pass.new }
@@ -125,7 +125,7 @@ fn raise_first<C: Cell, O: Origin>(store: &Store<C, O>, pass: &mut Pass<C>, tab:
 }
 
 // The slot for the piece that a tab fills, and one behind it.
-fn reserve_both<C: Cell, O: Origin>(
+fn reserve_both<C: Cell, O: AnyOrigin>(
     store: &Store<C, O>,
     pass: &mut Pass<C>,
     tab: u8,
@@ -149,7 +149,7 @@ fn reserve_both<C: Cell, O: Origin>(
 /// # Errors
 ///
 /// The station failed.
-pub(crate) fn publish_piece<C: Cell, O: Origin, St: Station<C = C>>(
+pub(crate) fn publish_piece<C: Cell, O: AnyOrigin, St: Station<C = C>>(
     store: &Store<C, O>,
     pass: &mut Pass<C>,
     station: &mut St,

@@ -11,12 +11,12 @@ use lock_word::Stage;
 use rock_disk::Cell;
 use rw_anchor::{Left, advance, leave};
 use slice_chain::free_chain;
-use store_rule::{Origin, Pass, Store};
+use store_rule::{AnyOrigin, Pass, Store};
 use tab_states::WritingAt;
 
 /// Halts the entry that a tab writes: the tab gives back what it reserved and did not link, and is free. Where
 /// nobody uses the entry any more it is freed.
-pub(crate) fn halt<C: Cell, O: Origin>(store: &Store<C, O>, pass: &mut Pass<C>, tab: u8)
+pub(crate) fn halt<C: Cell, O: AnyOrigin>(store: &Store<C, O>, pass: &mut Pass<C>, tab: u8)
     requires { MayHalt C.tells C.state O.offers store.now pass.old tab }
     ensures halts { Halts (basis C.tells C.state O.offers store.now) tab (view pass.old) (view pass.new) }
     ensures others { FollowsTab C.tells C.state O.offers store.now tab pass.old pass.new }
@@ -28,7 +28,7 @@ pub(crate) fn halt<C: Cell, O: Origin>(store: &Store<C, O>, pass: &mut Pass<C>, 
 }
 
 // Gives back what the tab reserved and did not link.
-fn give_unlinked<C: Cell, O: Origin>(store: &Store<C, O>, pass: &mut Pass<C>, tab: u8)
+fn give_unlinked<C: Cell, O: AnyOrigin>(store: &Store<C, O>, pass: &mut Pass<C>, tab: u8)
     requires { MayHalt C.tells C.state O.offers store.now pass.old tab }
     ensures gave { GaveUnlinked (basis C.tells C.state O.offers store.now) tab (view pass.old) (view pass.new) }
     ensures others { Follows C.tells C.state O.offers store.now tab pass.old pass.new }
@@ -54,7 +54,7 @@ fn first_unlinked(writing: &WritingAt) -> Option<u32>
 }
 
 // Gives a slot back, if there is one.
-fn give_back<C: Cell, O: Origin>(
+fn give_back<C: Cell, O: AnyOrigin>(
     store: &Store<C, O>,
     pass: &mut Pass<C>,
     tab: u8,
@@ -71,7 +71,7 @@ fn give_back<C: Cell, O: Origin>(
 }
 
 /// A tab parts from the entry that it closed or halted. Where nobody uses that any more it is freed.
-pub(crate) fn part<C: Cell, O: Origin>(store: &Store<C, O>, pass: &mut Pass<C>, tab: u8)
+pub(crate) fn part<C: Cell, O: AnyOrigin>(store: &Store<C, O>, pass: &mut Pass<C>, tab: u8)
     requires { MayPart C.tells C.state O.offers store.now pass.old tab }
     ensures parted { Parted (basis C.tells C.state O.offers store.now) tab (view pass.old) (view pass.new) }
     ensures others { FollowsTab C.tells C.state O.offers store.now tab pass.old pass.new }

@@ -17,4 +17,4 @@ pub use appending::append;
 pub use beginning::begin;
 pub use fault::{BeginFault, Ended, WriteFault};
 pub use finishing::{abort, finish};
-pub use laws::{logged_pieces_stay_known, writing_tabs_stay};
+pub use laws::{bodies_may_go_on, logged_pieces_stay_known, writing_tabs_stay};

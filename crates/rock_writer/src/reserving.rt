@@ -9,7 +9,7 @@ ghost use Rattle.store_rule.specs.Passes.{basis, view};
 use free_set::{AllTaken, claim};
 use rock_disk::Cell;
 use slice_chain::{NoVictim, evict_one};
-use store_rule::{Origin, Pass, Store};
+use store_rule::{AnyOrigin, Pass, Store};
 
 /// Reserves a slot for a tab that writes: a free one, or where none is, the first of an idle entry that is
 /// evicted.
@@ -17,7 +17,7 @@ use store_rule::{Origin, Pass, Store};
 /// # Errors
 ///
 /// No slot was found free, and no entry idle. No tab has changed but for how far its search for a slot has come.
-pub(crate) fn reserve<C: Cell, O: Origin>(
+pub(crate) fn reserve<C: Cell, O: AnyOrigin>(
     store: &Store<C, O>,
     pass: &mut Pass<C>,
     tab: u8,

@@ -1,5 +1,5 @@
 -- A version that was drawn lets a tab take an anchor that its pass had found before.
-use Rattle.std.proofs.Common.{Contains, ap, arith, eq-eqb, refl, subst, sym, true, ◌+◌, ◌<◌, ◌≡◌, ◌⊎◌, ◌∙◌, ⊎_elim, inl, inr, ℕ}
+use Rattle.std.proofs.Common.{Bool, Contains, ap, arith, eq-eqb, refl, subst, sym, true, ◌+◌, ◌<◌, ◌≡◌, ◌⊎◌, ◌∙◌, ⊎_elim, inl, inr, ℕ}
 use Rattle.std.proofs.lemmas.Bool.{lt-leb}
 use Rattle.lock_word.specs.Words.{is_idle, is_vacant, version_limit}
 use Rattle.core_model.specs.AllowedByView.{AllowedByView}
@@ -9,11 +9,11 @@ use Rattle.core_model.specs.Steps.{view_after}
 use Rattle.core_model.specs.declared.moves.Move.TheVariants.{Count, Draw, Take}
 use Rattle.core_model.specs.declared.tab.Tab.{Tab}
 use Rattle.core_model.specs.declared.view.View.{View}
-use Rattle.store_rule.specs.Ground.{Ground}
+use Rattle.store_rule.specs.Ground.{GroundOf}
 use Rattle.store_rule.specs.Told.{found_as}
 use Rattle.rw_anchor.specs.Calls.{Drew}
 
-module _ {X : Type 0} (g : Ground X) (u w : View X) (version : ℕ) (d : Drew g u version w) where
+module _ {X : Type 0} {says : Bool} (g : GroundOf says X) (u w : View X) (version : ℕ) (d : Drew g u version w) where
   -- the view at the end, spelled out
   w_is : w ≡ view_after (view_after u Count (found_as g.setting d.look.state u Count d.counted)) Draw (found_as g.setting d.draw.state d.middle Draw d.found)
   w_is = d.draw.leaves ∙ ap (λ (z : View X). view_after z Draw (found_as g.setting d.draw.state d.middle Draw d.found)) d.look.leaves

@@ -12,7 +12,7 @@ use Rattle.core_model.specs.Trails.{last_find}
 use Rattle.core_model.specs.declared.moves.Move.TheVariants.{Evict, Leave}
 use Rattle.core_model.specs.declared.tab.Tab.{Tab}
 use Rattle.core_model.specs.declared.view.View.{View}
-use Rattle.store_rule.specs.Ground.{Ground, Offers}
+use Rattle.store_rule.specs.Ground.{GroundOf, OffersOf}
 use Rattle.store_rule.specs.Passes.{Made, May, basis, view}
 use Rattle.store_rule.specs.Told.{Steps}
 use Rattle.store_rule.specs.declared.store.Pass.{Pass}
@@ -23,7 +23,7 @@ use Rattle.store_rule.specs.Calls.{Follows}
 use Rattle.store_rule.proofs.Following.{made_follows}
 use Rattle.rw_anchor.specs.Calls.{MayGiveUp}
 
-module _ {X : Type 0} (g : Ground X) (v w : View X) (t n : ℕ) (st : Steps g v (Leave t) n w) (pass : IsPass v) (le : t ≤ inner) where
+module _ {X : Type 0} {says : Bool} (g : GroundOf says X) (v w : View X) (t n : ℕ) (st : Steps g v (Leave t) n w) (pass : IsPass v) (le : t ≤ inner) where
   abbrev a : ℕ
   a = anchor_of (tab_at v t)
 
@@ -41,7 +41,7 @@ module _ {X : Type 0} (g : Ground X) (v w : View X) (t n : ℕ) (st : Steps g v 
   may_evict : a < g.setting.anchors → is_left_over (n - 1) ≡ true → InnerIsFree v ⊎ (t ≡ inner) → AllowedByView g.setting w (Evict t a)
   may_evict lt over h = (lt, inr (le, tab_is over, ap is_left_over last_is ∙ over, inner_is h))
 
-module _ {C O : Type 0} (tells : Bool) (state : C → CellState) (offers : O → Offers) (s : Store C O) where
+module _ {C O : Type 0} (tells : Bool) (state : C → CellState) {says : Bool} (offers : O → OffersOf says) (s : Store C O) where
   pub gives_up_follows : (t a : ℕ) (p q : Pass C) (told : ℕ) → Made tells state offers s p (Evict t a) told q → Follows tells state offers s t p q
   gives_up_follows t a p q told made = made_follows tells state offers s t p q (Evict t a) told made (λ u e. ap (λ (o : Option ℕ). unwrap_or o t) (sym e)) (λ h. h)
 

@@ -6,7 +6,7 @@ use Rattle.lock_word.specs.Words.{IsInRange, epoch_number, word_number}
 use Rattle.rock_disk.specs.Cell.{CellState}
 use Rattle.core_model.specs.Trails.{last_find}
 use Rattle.core_model.specs.declared.moves.Move.TheVariants.{Take}
-use Rattle.store_rule.specs.Ground.{Offers}
+use Rattle.store_rule.specs.Ground.{OffersOf}
 use Rattle.store_rule.specs.Passes.{Made, view}
 use Rattle.store_rule.specs.declared.store.Pass.{Pass}
 use Rattle.store_rule.specs.declared.store.Store.{Store}
@@ -15,7 +15,7 @@ use Rattle.store_rule.specs.Quiet.{Quiet}
 use Rattle.store_rule.proofs.Following.{fresh_word, made_follows}
 use Rattle.store_rule.proofs.Quieting.{quiet_step}
 
-module _ {C O : Type 0} (tells : Bool) (state : C → CellState) (offers : O → Offers) (s : Store C O) (p q : Pass C) (t a version : ℕ) where
+module _ {C O : Type 0} (tells : Bool) (state : C → CellState) {says : Bool} (offers : O → OffersOf says) (s : Store C O) (p q : Pass C) (t a version : ℕ) where
   took_follows : (told : ℕ) → Made tells state offers s p (Take t a version) told q → Follows tells state offers s t p q
   took_follows told made = made_follows tells state offers s t p q (Take t a version) told made (λ u e. ap (λ (o : Option ℕ). unwrap_or o t) (sym e)) (λ h. h)
 

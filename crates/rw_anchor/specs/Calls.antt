@@ -10,14 +10,14 @@ use Rattle.core_model.specs.Tabs.{anchor_of, tab_at}
 use Rattle.core_model.specs.Trails.{last_find}
 use Rattle.store_rule.specs.declared.store.Pass.{Pass}
 use Rattle.store_rule.specs.declared.store.Store.{Store}
-use Rattle.store_rule.specs.Ground.{Ground, Offers}
+use Rattle.store_rule.specs.Ground.{GroundOf, OffersOf}
 use Rattle.store_rule.specs.Passes.{Made, May, view}
 use Rattle.store_rule.specs.Calls.{IsFresh}
 use Rattle.tab_states.specs.Tabs.{is_last}
 use Rattle.store_rule.specs.Told.{Steps}
 use Rattle.rw_anchor.specs.declared.Left.{Left}
 
-module _ {X : Type 0} (g : Ground X) (v : View X) where
+module _ {X : Type 0} {says : Bool} (g : GroundOf says X) (v : View X) where
   -- the counter was looked at, and then a version was drawn
   pub record Drew (version : ℕ) (w : View X) : Type 0 where
     pub counted : ℕ
@@ -56,7 +56,7 @@ module _ {X : Type 0} (g : Ground X) (v : View X) where
     pub used : is_left_over (found - 1) ≡ false
     pub done : left ≡ Left.Done
 
-module _ {X : Type 0} (g : Ground X) (v : View X) where
+module _ {X : Type 0} {says : Bool} (g : GroundOf says X) (v : View X) where
   -- it left one that is, as its last user
   pub record LeftLast (t : ℕ) (left : Left) (w : View X) : Type 0 where
     pub found : ℕ
@@ -70,7 +70,7 @@ module _ {X : Type 0} (g : Ground X) (v : View X) where
   Leaves t left w = ((is_last (tab_at v t) ≡ true) × GivenUp g v t left w)
       ⊎ ((is_last (tab_at v t) ≡ false) × (Gone g v t left w ⊎ LeftLast t left w))
 
-module _ {C O : Type 0} (tells : Bool) (state : C → CellState) (offers : O → Offers) where
+module _ {C O : Type 0} (tells : Bool) (state : C → CellState) {says : Bool} (offers : O → OffersOf says) where
   -- a last tab may have its entry freed: the word that it left is still the last find at its anchor
   pub record MayGiveUp (s : Store C O) (p : Pass C) (t : ℕ) : Type 0 where
     pub may : May tells state offers s p (Evict t (anchor_of (tab_at (view p) t)))

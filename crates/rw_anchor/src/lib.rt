@@ -25,7 +25,7 @@ ghost use Rattle.tab_states.specs.Tabs.{is_last};
 
 use lock_word::{Epoch, GREATEST_VERSION, Stage, Word, is_left_over, readable};
 use rock_disk::Cell;
-use store_rule::{Origin, Pass, Store};
+use store_rule::{AnyOrigin, Pass, Store};
 
 /// There is no version left.
 #[derive(Clone, Copy, Debug, PartialEq, Eq)]
@@ -43,7 +43,7 @@ pub enum Left {
 }
 
 /// Looks at an anchor, and answers its word.
-pub fn look<C: Cell, O: Origin>(store: &Store<C, O>, pass: &mut Pass<C>, anchor: u32) -> Word
+pub fn look<C: Cell, O: AnyOrigin>(store: &Store<C, O>, pass: &mut Pass<C>, anchor: u32) -> Word
     requires { May C.tells C.state O.offers store.now pass.old (Look anchor) }
     ensures made { Made C.tells C.state O.offers store.now pass.old (Look anchor) (word_number result) pass.new }
     ensures in_range { IsInRange result }
@@ -56,7 +56,7 @@ pub fn look<C: Cell, O: Origin>(store: &Store<C, O>, pass: &mut Pass<C>, anchor:
 
 /// Counts a free tab among the readers of an anchor, and answers the epoch found. `Ok`: it can be read,
 /// and the tab reads. `Err`: it can't, the tab retreats, and it must leave.
-pub fn share<C: Cell, O: Origin>(
+pub fn share<C: Cell, O: AnyOrigin>(
     store: &Store<C, O>,
     pass: &mut Pass<C>,
     tab: u8,
@@ -79,7 +79,7 @@ pub fn share<C: Cell, O: Origin>(
 /// A tab that reads or retreats, without a turn, leaves its anchor. Where it is the last user of an
 /// entry that is halted, or closed and doomed, it has that entry freed, unless another comes first. A tab
 /// that was last before the call has it freed likewise, and makes no step of leaving.
-pub fn leave<C: Cell, O: Origin>(store: &Store<C, O>, pass: &mut Pass<C>, tab: u8) -> Left
+pub fn leave<C: Cell, O: AnyOrigin>(store: &Store<C, O>, pass: &mut Pass<C>, tab: u8) -> Left
     requires tab { tab ≤ inner }
     requires counted { is_last (tab_at (view pass.old) tab) ≡ false → May C.tells C.state O.offers store.now pass.old (Leave tab) }
     requires last { is_last (tab_at (view pass.old) tab) ≡ true → MayGiveUp C.tells C.state O.offers store.now pass.old tab }
@@ -99,7 +99,7 @@ pub fn leave<C: Cell, O: Origin>(store: &Store<C, O>, pass: &mut Pass<C>, tab: u
 }
 
 // A last tab has its entry freed, where its word is still the one that the tab left.
-fn give_up<C: Cell, O: Origin>(store: &Store<C, O>, pass: &mut Pass<C>, tab: u8) -> Left
+fn give_up<C: Cell, O: AnyOrigin>(store: &Store<C, O>, pass: &mut Pass<C>, tab: u8) -> Left
     requires tab { tab ≤ inner }
     requires last { MayGiveUp C.tells C.state O.offers store.now pass.old tab }
     ensures gives_up { GivenUp (basis C.tells C.state O.offers store.now) (view pass.old) tab result (view pass.new) }
@@ -120,7 +120,7 @@ fn give_up<C: Cell, O: Origin>(store: &Store<C, O>, pass: &mut Pass<C>, tab: u8)
 ///
 /// The counter is at its limit, where it was looked at or where the version was to be drawn. Then
 /// nothing but the counter may have changed.
-pub fn draw<C: Cell, O: Origin>(store: &Store<C, O>, pass: &mut Pass<C>) -> Result<u32, Spent>
+pub fn draw<C: Cell, O: AnyOrigin>(store: &Store<C, O>, pass: &mut Pass<C>) -> Result<u32, Spent>
     requires { IsOf C.tells C.state O.offers store.now pass.old }
     ensures ok { IfOk result (λ version. Drew (basis C.tells C.state O.offers store.now) (view pass.old) version (view pass.new)) }
     ensures err { IfErr result (λ spent. SpentAtLook (basis C.tells C.state O.offers store.now) (view pass.old) spent.versions (view pass.new)
@@ -155,7 +155,7 @@ pub fn drawn_versions_may_take<X>()
 /// # Errors
 ///
 /// The word found, which is not `looked`. The version is used up, and all tabs are as before.
-pub fn take<C: Cell, O: Origin>(
+pub fn take<C: Cell, O: AnyOrigin>(
     store: &Store<C, O>,
     pass: &mut Pass<C>,
     tab: u8,
@@ -175,7 +175,7 @@ pub fn take<C: Cell, O: Origin>(
 }
 
 /// Raises the stage of the entry that the tab writes or frees, and answers the word left.
-pub fn advance<C: Cell, O: Origin>(
+pub fn advance<C: Cell, O: AnyOrigin>(
     store: &Store<C, O>,
     pass: &mut Pass<C>,
     tab: u8,
@@ -192,7 +192,7 @@ pub fn advance<C: Cell, O: Origin>(
 }
 
 /// Dooms the entry that the tab reads, and answers the word left.
-pub fn doom<C: Cell, O: Origin>(store: &Store<C, O>, pass: &mut Pass<C>, tab: u8) -> Word
+pub fn doom<C: Cell, O: AnyOrigin>(store: &Store<C, O>, pass: &mut Pass<C>, tab: u8) -> Word
     requires { May C.tells C.state O.offers store.now pass.old (Doom tab) }
     ensures made { Made C.tells C.state O.offers store.now pass.old (Doom tab) (word_number result) pass.new }
     ensures in_range { IsInRange result }

@@ -1,8 +1,8 @@
 // The law on a store that was closed.
-ghost use Rattle.std.specs.Prelude.{List, ℕ};
+ghost use Rattle.std.specs.Prelude.{Bool, List, ℕ};
 ghost use Rattle.core_model.specs.declared.view.View.{View};
 ghost use Rattle.store_rule.specs.Closing.{Closed};
-ghost use Rattle.store_rule.specs.Ground.{Ground};
+ghost use Rattle.store_rule.specs.Ground.{GroundOf};
 ghost use Rattle.settled_stores.specs.Settled.{IsSettled};
 
 use core_model::{idle_stores_are_settled, slots_are_counted, slots_have_one_spot};
@@ -15,7 +15,7 @@ use rock_io::Octets;
 ///
 /// The function does nothing: the proof of a function that calls it may use what it ensures.
 pub fn closed_stores_are_settled<C: Cell>()
-    ensures { (g : Ground (List ℕ)) (views : List (View (List ℕ))) (cells : List C)
+    ensures { (says : Bool) (g : GroundOf says (List ℕ)) (views : List (View (List ℕ))) (cells : List C)
         → (closed : Closed C.tells C.state g views cells) → IsSettled g.setting closed.gathered.state }
 {
     idle_stores_are_settled::<Octets>();

@@ -20,7 +20,7 @@ use Rattle.core_model.proofs.Holders.{is_away, one_holder}
 use Rattle.core_model.proofs.Tabs.{contains_times}
 use Rattle.core_log.specs.Logged.{HasLogged}
 use Rattle.core_log.specs.Within.{IsPossible, IsWriting}
-use Rattle.store_rule.specs.Ground.{Ground, Rule}
+use Rattle.store_rule.specs.Ground.{GroundOf, Rule}
 use Rattle.store_rule.specs.Turns.{MayReturn, new_hold}
 use Rattle.slice_chain.specs.During.{IsLeftDuring, holding}
 use Rattle.slice_chain.specs.Writes.{WroteSlot}
@@ -39,7 +39,7 @@ module _ {X : Type 0} where
   one_turn : (x : Turn X) (a b : Hold X) → x ≡ Has a → x ≡ Has b → a ≡ b
   one_turn x a b p q = cc
 
-module _ (g : Ground (List ℕ)) (t : ℕ) (v : View (List ℕ)) (durable done : Bool) (w : View (List ℕ)) (wrote : WroteSlot g t v durable done w) where
+module _ {says : Bool} (g : GroundOf says (List ℕ)) (t : ℕ) (v : View (List ℕ)) (durable done : Bool) (w : View (List ℕ)) (wrote : WroteSlot g t v durable done w) where
   abbrev slot : ℕ
   slot = wrote.slot
 

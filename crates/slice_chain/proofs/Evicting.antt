@@ -18,7 +18,7 @@ use Rattle.core_model.proofs.Tells.{tells as steps_tell}
 use Rattle.rock_disk.specs.Cell.{CellState}
 use Rattle.store_rule.specs.declared.store.Pass.{Pass}
 use Rattle.store_rule.specs.declared.store.Store.{Store}
-use Rattle.store_rule.specs.Ground.{Ground, Offers}
+use Rattle.store_rule.specs.Ground.{GroundOf, OffersOf}
 use Rattle.store_rule.specs.Passes.{Made}
 use Rattle.store_rule.specs.Calls.{Follows}
 use Rattle.store_rule.proofs.Following.{follows_on, made_follows}
@@ -49,7 +49,7 @@ falls n m e f e_is f_is word idle ne le = by_bool (is_idle m) (is_idle n) refl r
     by_bool true false i j = absurd (Rattle.std.proofs.lemmas.Bool.false≢true (sym j ∙ idle))
     by_bool false false i j = absurd (Rattle.std.proofs.lemmas.Bool.false≢true (sym j ∙ idle))
 
-module _ {X : Type 0} (g : Ground X) (a : ℕ) where
+module _ {X : Type 0} {says : Bool} (g : GroundOf says X) (a : ℕ) where
   sees_epoch : (e : ℕ) (xs : List Sight) → e ≤ seen_at a (Stood a e ∷ xs)
   sees_epoch e xs = let h = eq-eqb a a refl in subst (λ (n : ℕ). n ≤ seen_at a (Stood a e ∷ xs)) (rw h refl) (le-max_left (stood a (Stood a e)) (seen_at a xs))
 
@@ -118,7 +118,7 @@ module _ {X : Type 0} (g : Ground X) (a : ℕ) where
     pub not_below : epoch_of n ≤ epoch_of m
     not_below = let s = h.sees in let f = (told_of u (Evict inner a) m w st).anchors.fresh in omega arith
 
-module _ {C O : Type 0} (tells : Bool) (state : C → CellState) (offers : O → Offers) (s : Store C O) (p : Pass C) where
+module _ {C O : Type 0} (tells : Bool) (state : C → CellState) {says : Bool} (offers : O → OffersOf says) (s : Store C O) (p : Pass C) where
   -- an evicted entry's tab is the inner one
   pub evict_follows : (q r : Pass C) (a n : ℕ) → Follows tells state offers s inner p q → Made tells state offers s q (Evict inner a) n r → Follows tells state offers s inner p r
   evict_follows q r a n first made = follows_on tells state offers s inner p q r first (made_follows tells state offers s inner q r (Evict inner a) n made (λ u e. ap (λ (o : Option ℕ). unwrap_or o inner) (sym e)) (λ h. h))

@@ -30,7 +30,7 @@ use Rattle.core_model.proofs.Lists.{contains_none}
 use Rattle.core_model.proofs.Telling.{stage_told}
 use Rattle.store_rule.specs.declared.store.Pass.{Pass}
 use Rattle.store_rule.specs.declared.store.Store.{Store}
-use Rattle.store_rule.specs.Ground.{Ground, Offers, fits}
+use Rattle.store_rule.specs.Ground.{GroundOf, OffersOf, fits}
 use Rattle.store_rule.specs.Passes.{HandMoves, IsOf, basis, hand, view}
 use Rattle.store_rule.specs.Told.{found_as, the_view}
 use Rattle.store_rule.proofs.Passing.{pass_of}
@@ -74,7 +74,7 @@ in_round anchors anchor a h l = by_bool (ltb a anchor) refl
 later_found : (xs ys : List Item) (a : ℕ) → FoundBusy ys a → FoundBusy (xs ++ ys) a
 later_found xs ys a h = record { word = h.word; found = ⊎_elim (λ c. inl (Contains-append_right xs ys _ c)) (λ c. inr (Contains-append_right xs ys _ c)) h.found; busy = h.busy }
 
-module _ {X : Type 0} (g : Ground X) (hand : ℕ) (v : View X) where
+module _ {X : Type 0} {says : Bool} (g : GroundOf says X) (hand : ℕ) (v : View X) where
   pub passed_none : PassedSome g hand v 0 v
   passed_none = record { added = nothing_added; went = went_none g v; calm = (refl, refl); undrawn = refl; counted = λ asked not_asked. sym (many_none asked Looked); tabs = refl; passed = λ j lt. absurd (omega arith); was = λ j lt. absurd (omega arith) }
 
@@ -245,7 +245,7 @@ module _ {X : Type 0} (g : Ground X) (hand : ℕ) (v : View X) where
       in_all a lt (inl b) = b
       in_all a lt (inr e) = absurd (omega arith)
 
-module _ {C O : Type 0} (tells : Bool) (state : C → CellState) (offers : O → Offers) (s : Store C O) (t : ℕ) (p : Pass C) (may : MayEvictOne tells state offers s p t) where
+module _ {C O : Type 0} (tells : Bool) (state : C → CellState) {says : Bool} (offers : O → OffersOf says) (s : Store C O) (t : ℕ) (p : Pass C) (may : MayEvictOne tells state offers s p t) where
   other : t ≢ inner
   other e = absurd (let b = may.below in omega arith)
 

@@ -22,7 +22,7 @@ use Rattle.core_model.proofs.Tabs.{tab_there}
 use Rattle.core_model.proofs.Tells.{tells as steps_tell}
 use Rattle.store_rule.specs.declared.store.Pass.{Pass}
 use Rattle.store_rule.specs.declared.store.Store.{Store}
-use Rattle.store_rule.specs.Ground.{Ground, Offers}
+use Rattle.store_rule.specs.Ground.{GroundOf, OffersOf, is_said}
 use Rattle.store_rule.specs.Passes.{Made, May, basis, view}
 use Rattle.tab_states.specs.Tabs.{head_of}
 use Rattle.store_rule.proofs.Passing.{pass_of}
@@ -41,8 +41,8 @@ next_is_head [] (Next x) h = absurd (h x refl)
 without_one : (slot : ℕ) → without slot (slot ∷ []) ≡ []
 without_one slot = let e = Rattle.std.proofs.Common.eq-eqb slot slot refl in rw e refl
 
-module _ {C O : Type 0} (tells : Bool) (state : C → CellState) (offers : O → Offers) (s : Store C O) (p : Pass C) (slot : ℕ) (may : MayFreeFront tells state offers s p slot) where
-  abbrev g : Ground (List ℕ)
+module _ {C O : Type 0} (tells : Bool) (state : C → CellState) {says : Bool} (offers : O → OffersOf says) (s : Store C O) (p : Pass C) (slot : ℕ) (may : MayFreeFront tells state offers s p slot) where
+  abbrev g : GroundOf (is_said says tells) (List ℕ)
   g = basis tells state offers s
 
   abbrev f : Freer (List ℕ)

@@ -32,7 +32,7 @@ use Rattle.core_model.proofs.Tabs.{tab_there}
 use Rattle.core_model.proofs.Tells.{tells as steps_tell}
 use Rattle.store_rule.specs.declared.store.Pass.{Pass}
 use Rattle.store_rule.specs.declared.store.Store.{Store}
-use Rattle.store_rule.specs.Ground.{Ground, Offers}
+use Rattle.store_rule.specs.Ground.{GroundOf, OffersOf, is_said}
 use Rattle.store_rule.specs.Passes.{IsOf, Made, May, basis, view}
 use Rattle.tab_states.specs.Tabs.{head_of}
 use Rattle.store_rule.specs.Told.{found_as}
@@ -59,8 +59,8 @@ start_most : (xs : List ℕ) (S : ℕ) → ((slot : ℕ) → 0 < times slot xs �
 start_most [] S h = omega arith
 start_most (x ∷ xs) S h = let lt = h x (let o = one_same x in omega arith) in omega arith
 
-module _ {C O : Type 0} (tells : Bool) (state : C → CellState) (offers : O → Offers) (s : Store C O) (p : Pass C) (may : MayFreeChain tells state offers s p) (n : ℕ) (p1 : Pass C) (loaded_ : Made tells state offers s p (LoadSide inner Start) n p1) where
-  abbrev g : Ground (List ℕ)
+module _ {C O : Type 0} (tells : Bool) (state : C → CellState) {says : Bool} (offers : O → OffersOf says) (s : Store C O) (p : Pass C) (may : MayFreeChain tells state offers s p) (n : ℕ) (p1 : Pass C) (loaded_ : Made tells state offers s p (LoadSide inner Start) n p1) where
+  abbrev g : GroundOf (is_said says tells) (List ℕ)
   g = basis tells state offers s
 
   abbrev f : Freer (List ℕ)
@@ -229,7 +229,7 @@ module _ {C O : Type 0} (tells : Bool) (state : C → CellState) (offers : O →
             behind_anchors : (slot : ℕ) → f.anchor < g.setting.anchors → index g.setting (Link slot) ≡ index g.setting (Anchor f.anchor) → ⊥
             behind_anchors slot lt e = omega arith
 
-module _ {C O : Type 0} (tells : Bool) (state : C → CellState) (offers : O → Offers) (s : Store C O) (p p1 p2 : Pass C) (n : ℕ) where
+module _ {C O : Type 0} (tells : Bool) (state : C → CellState) {says : Bool} (offers : O → OffersOf says) (s : Store C O) (p p1 p2 : Pass C) (n : ℕ) where
   pub rest_follows : Made tells state offers s p (LoadSide inner Start) n p1 → Follows tells state offers s inner p1 p2 → Follows tells state offers s inner p p2
   rest_follows first rest = follows_on tells state offers s inner p p1 p2 (made_follows tells state offers s inner p p1 (LoadSide inner Start) n first (λ u e. ap (λ (o : Option ℕ). unwrap_or o inner) (sym e)) (λ h. h)) rest
 

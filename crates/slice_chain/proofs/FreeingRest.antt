@@ -17,7 +17,7 @@ use Rattle.core_model.specs.declared.view.Place.TheVariants.{Link}
 use Rattle.core_model.specs.declared.view.View.{View}
 use Rattle.store_rule.specs.declared.store.Pass.{Pass}
 use Rattle.store_rule.specs.declared.store.Store.{Store}
-use Rattle.store_rule.specs.Ground.{Ground, Offers}
+use Rattle.store_rule.specs.Ground.{GroundOf, OffersOf}
 use Rattle.store_rule.specs.Passes.{IsOf, basis, view}
 use Rattle.tab_states.specs.Tabs.{head_of}
 use Rattle.store_rule.specs.Told.{found_as}
@@ -72,7 +72,7 @@ not_empty slot xs e z = cons_nil (sym e ∙ z)
     cons_nil : slot ∷ rest_of xs ≡ [] → ⊥
     cons_nil q = cc
 
-module _ {X : Type 0} (g : Ground X) (slot : ℕ) (u w : View X) (next : Option ℕ) (h : FrontFreed g slot u next w) where
+module _ {X : Type 0} {says : Bool} (g : GroundOf says X) (slot : ℕ) (u w : View X) (next : Option ℕ) (h : FrontFreed g slot u next w) where
   abbrev front_added : Added
   front_added = together (added_by h.loosened (Disown inner slot) (found_as g.setting h.gives.state h.loosened (Disown inner slot) h.map_word))
       (together (added_by h.looked (Loosen inner slot) (found_as g.setting h.leaves.state h.looked (Loosen inner slot) h.word))
@@ -114,7 +114,7 @@ module _ {X : Type 0} (g : Ground X) (slot : ℕ) (u w : View X) (next : Option 
   front_gave : WasGiven front_added.items slot
   front_gave = (h.map_word, (0, omega arith, refl))
 
-module _ {X : Type 0} (g : Ground X) (v : View X) (pass : IsPass v) where
+module _ {X : Type 0} {says : Bool} (g : GroundOf says X) (v : View X) (pass : IsPass v) where
   -- the tab while slots are left
   left_tab : (f : Freer X) (left : List ℕ) (u : View X) (so : FreedSome g f v left u) → tab_at u inner ≡ emptied so.freer
   left_tab f left u so = ap (λ (xs : List (Tab X)). get_or xs inner Tab.Free) so.tabs ∙ get_or-set_same v.tabs inner (emptied so.freer) Tab.Free (let n = pass in omega arith)
@@ -170,7 +170,7 @@ module _ {X : Type 0} (g : Ground X) (v : View X) (pass : IsPass v) where
   fewer slot u w next n h = let a = ap rest_length (ap (λ (xs : List (Tab X)). get_or xs inner Tab.Free) h.tabs ∙ get_or-set_same u.tabs inner (emptied (with_less h.freer)) Tab.Free (omega arith)) in
       let b = rest_of_emptied X (with_less h.freer) in let c = ap rest_length h.was in let d = ap length h.front in omega arith
 
-module _ {C O : Type 0} (tells : Bool) (state : C → CellState) (offers : O → Offers) (s : Store C O) (p : Pass C) (front : Option ℕ) (may : MayFreeRest tells state offers s p front) where
+module _ {C O : Type 0} (tells : Bool) (state : C → CellState) {says : Bool} (offers : O → OffersOf says) (s : Store C O) (p : Pass C) (front : Option ℕ) (may : MayFreeRest tells state offers s p front) where
   pub rest_begins : RestLeft (basis tells state offers s) (view p) front (view p)
   rest_begins = record {
     freer = may.freer;

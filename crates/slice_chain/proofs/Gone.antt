@@ -22,7 +22,7 @@ use Rattle.core_model.proofs.Lists.{contains_none}
 use Rattle.core_model.proofs.Tells.{tells as steps_tell}
 use Rattle.store_rule.specs.declared.store.Pass.{Pass}
 use Rattle.store_rule.specs.declared.store.Store.{Store}
-use Rattle.store_rule.specs.Ground.{Ground, Offers}
+use Rattle.store_rule.specs.Ground.{GroundOf, OffersOf, is_said}
 use Rattle.store_rule.specs.Passes.{IsOf, Made, May, basis, view}
 use Rattle.store_rule.specs.Told.{found_as}
 use Rattle.store_rule.specs.Runs.{Added, Went, added_by}
@@ -30,9 +30,9 @@ use Rattle.store_rule.specs.Words.{Mine, has}
 use Rattle.store_rule.proofs.AddingUp.{has_left, went_one}
 use Rattle.store_rule.proofs.MyWords.{found_mine, mine_as}
 
-module _ {C O : Type 0} (tells : Bool) (state : C → CellState) (offers : O → Offers) (s : Store C O) (p : Pass C) (own : IsOf tells state offers s p) (last : Freer (List ℕ)) (tab : tab_at (view p) inner ≡ Freeing last)
+module _ {C O : Type 0} (tells : Bool) (state : C → CellState) {says : Bool} (offers : O → OffersOf says) (s : Store C O) (p : Pass C) (own : IsOf tells state offers s p) (last : Freer (List ℕ)) (tab : tab_at (view p) inner ≡ Freeing last)
     (on : last.is_freeing ≡ true) (rest : last.rest ≡ []) (loose : last.loose ≡ []) where
-  abbrev g : Ground (List ℕ)
+  abbrev g : GroundOf (is_said says tells) (List ℕ)
   g = basis tells state offers s
 
   pub may_end : May tells state offers s p (Raise inner Stage.Gone)

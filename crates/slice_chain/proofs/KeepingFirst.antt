@@ -25,7 +25,7 @@ use Rattle.core_model.specs.declared.view.View.{View}
 use Rattle.core_model.proofs.Lists.{contains_none}
 use Rattle.store_rule.specs.declared.store.Pass.{Pass}
 use Rattle.store_rule.specs.declared.store.Store.{Store}
-use Rattle.store_rule.specs.Ground.{Ground, Offers}
+use Rattle.store_rule.specs.Ground.{GroundOf, OffersOf, is_said}
 use Rattle.store_rule.specs.Passes.{Made, May, basis, view}
 use Rattle.tab_states.specs.Tabs.{head_of}
 use Rattle.store_rule.specs.Told.{found_as}
@@ -47,7 +47,7 @@ use Rattle.slice_chain.proofs.FreeingRest.{head_there, same_freer, still_frees}
 use Rattle.slice_chain.proofs.Gone as ending
 use Rattle.slice_chain.proofs.Writing.{set_again}
 
-module _ {C O : Type 0} (tells : Bool) (state : C → CellState) (offers : O → Offers) (s : Store C O) where
+module _ {C O : Type 0} (tells : Bool) (state : C → CellState) {says : Bool} (offers : O → OffersOf says) (s : Store C O) where
   -- A call for the inner tab, or for this tab, leaves the others as they were.
   pub evicting_inner : (t : ℕ) (p q : Pass C) → Follows tells state offers s inner p q → FollowsEvicting tells state offers s t p q
   evicting_inner t p q h = record { own = h.own; others = λ j ne far. h.others j far far; left = λ j ne far. h.left j far; places = h.places; desks = h.desks; cells = h.cells }
@@ -58,8 +58,8 @@ module _ {C O : Type 0} (tells : Bool) (state : C → CellState) (offers : O →
   pub evicting_on : (t : ℕ) (p u q : Pass C) → FollowsEvicting tells state offers s t p u → FollowsEvicting tells state offers s t u q → FollowsEvicting tells state offers s t p q
   evicting_on t p u q a b = record { own = b.own; others = λ j ne far. b.others j ne far ∙ a.others j ne far; left = λ j ne far. b.left j ne far ∙ a.left j ne far; places = b.places ∙ a.places; desks = b.desks ∙ a.desks; cells = b.cells ∙ a.cells }
 
-module _ {C O : Type 0} (tells : Bool) (state : C → CellState) (offers : O → Offers) (s : Store C O) (t : ℕ) (p : Pass C) (may : MayKeepFirst tells state offers s p t) (n : ℕ) (p1 : Pass C) (start : Made tells state offers s p (LoadSide inner Start) n p1) where
-  abbrev g : Ground (List ℕ)
+module _ {C O : Type 0} (tells : Bool) (state : C → CellState) {says : Bool} (offers : O → OffersOf says) (s : Store C O) (t : ℕ) (p : Pass C) (may : MayKeepFirst tells state offers s p t) (n : ℕ) (p1 : Pass C) (start : Made tells state offers s p (LoadSide inner Start) n p1) where
+  abbrev g : GroundOf (is_said says tells) (List ℕ)
   g = basis tells state offers s
 
   abbrev f : Freer (List ℕ)

@@ -27,14 +27,14 @@ use Rattle.core_model.proofs.Tells.{tells as steps_tell}
 use Rattle.store_rule.specs.declared.store.Pass.{Pass}
 use Rattle.store_rule.specs.declared.store.Store.{Store}
 use Rattle.tab_states.specs.declared.tabs.WritingAt.{WritingAt}
-use Rattle.store_rule.specs.Ground.{Ground, Offers}
+use Rattle.store_rule.specs.Ground.{GroundOf, OffersOf, is_said}
 use Rattle.store_rule.specs.Passes.{Made, May, basis, view}
 use Rattle.tab_states.specs.Tabs.{writing_of}
 use Rattle.store_rule.specs.Told.{Stands}
 use Rattle.store_rule.proofs.Passing.{pass_of}
 use Rattle.slice_chain.specs.Links.{MayLocate, MayPublishSlot, next_link, slot_known}
 
-module _ {X : Type 0} (g : Ground X) (v : View X) (st : Stands g v) where
+module _ {X : Type 0} {says : Bool} (g : GroundOf says X) (v : View X) (st : Stands g v) where
   -- an entry of which nothing is published does not grow
   not_growing : (t : ℕ) (w : Writer X) → get_elem? v.tabs t ≡ some (Tab.Writing w) → w.published ≡ [] → w.is_appending ≡ false
   not_growing t w there none = by_case w.is_appending refl
@@ -74,7 +74,7 @@ none_published (Tab.Reading r) x e none = cc
 none_published (Tab.Last a) x e none = cc
 none_published (Tab.Freeing f) x e none = cc
 
-module _ {C O : Type 0} (tells : Bool) (state : C → CellState) (offers : O → Offers) (s : Store C O) (p q : Pass C) (t slot : ℕ) where
+module _ {C O : Type 0} (tells : Bool) (state : C → CellState) {says : Bool} (offers : O → OffersOf says) (s : Store C O) (p q : Pass C) (t slot : ℕ) where
   pub may_start : (next : Option ℕ) (x : WritingAt) → MayPublishSlot tells state offers s p t slot next → Some x ≡ writing_of (tab_at (view p) t) → x.published ≡ 0 → Made tells state offers s p (Publish t slot (next_link next)) 0 q
       → May tells state offers s q (StoreSide t Start (slot + 1))
   may_start next x may is none made = record {
@@ -110,12 +110,12 @@ module _ {C O : Type 0} (tells : Bool) (state : C → CellState) (offers : O →
       started (Tab.Last a) there same e = cc
       started (Tab.Freeing f) there same e = cc
 
-module _ {C O : Type 0} (tells : Bool) (state : C → CellState) (offers : O → Offers) (s : Store C O) (p q : Pass C) (t n : ℕ) where
+module _ {C O : Type 0} (tells : Bool) (state : C → CellState) {says : Bool} (offers : O → OffersOf says) (s : Store C O) (p q : Pass C) (t n : ℕ) where
   -- the start that a tab loads which knows no slot yet names one
   pub start_names : MayLocate tells state offers s p t → slot_known (tab_at (view p) t) ≡ None → Made tells state offers s p (LoadSide t Start) n q → (slot : ℕ) × (slot_known (tab_at (view q) t) ≡ Some slot) × (n ≡ slot + 1)
   start_names may unknown made = by_tab (tab_at (view p) t) there may.reads unknown (told.names) now
     where
-      g : Ground (List ℕ)
+      g : GroundOf (is_said says tells) (List ℕ)
       g = basis tells state offers s
 
       there : get_elem? (view p).tabs t ≡ some (tab_at (view p) t)

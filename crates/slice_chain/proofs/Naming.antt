@@ -9,7 +9,7 @@ use Rattle.core_model.specs.declared.tab.Tab.{Tab}
 use Rattle.core_model.specs.declared.tab.Writer.{Writer}
 use Rattle.store_rule.specs.declared.store.Pass.{Pass}
 use Rattle.store_rule.specs.declared.store.Store.{Store}
-use Rattle.store_rule.specs.Ground.{Offers}
+use Rattle.store_rule.specs.Ground.{OffersOf}
 use Rattle.store_rule.specs.Passes.{IsOf, Made, May, basis, view}
 use Rattle.store_rule.proofs.Passing.{pass_of}
 use Rattle.store_rule.specs.Calls.{Follows}
@@ -38,7 +38,7 @@ module _ {X : Type 0} where
   of_writer P Q (Tab.Last a) f h = absurd h
   of_writer P Q (Tab.Freeing f) g h = absurd h
 
-module _ {C O : Type 0} (tells : Bool) (state : C → CellState) (offers : O → Offers) (s : Store C O) (t : ℕ) (below : t < inner) where
+module _ {C O : Type 0} (tells : Bool) (state : C → CellState) {says : Bool} (offers : O → OffersOf says) (s : Store C O) (t : ℕ) (below : t < inner) where
   pub record Ready (p : Pass C) : Type 0 where
     pub own : IsOf tells state offers s p
     pub inner_free : InnerIsFree (view p)

@@ -10,7 +10,7 @@ use Rattle.core_model.specs.declared.tab.Tab.{Tab}
 use Rattle.core_model.specs.declared.view.View.{View}
 use Rattle.store_rule.specs.declared.store.Pass.{Pass}
 use Rattle.store_rule.specs.declared.store.Store.{Store}
-use Rattle.store_rule.specs.Ground.{Ground, Offers}
+use Rattle.store_rule.specs.Ground.{GroundOf, OffersOf}
 use Rattle.store_rule.specs.Lending.{with_bytes}
 use Rattle.store_rule.specs.Passes.{Made, basis, view}
 use Rattle.store_rule.specs.Setting.{shown}
@@ -27,11 +27,11 @@ returned_trail k (Tab.Reading r) t slot c v u is = ap View.trail is
 returned_trail k (Tab.Last a) t slot c v u is = ap View.trail is
 returned_trail k (Tab.Freeing f) t slot c v u is = ap View.trail is
 
-lost_quiet : {X : Type 0} (g : Ground X) (t slot : ℕ) (v : View X) (us : List (View X)) (w : View X) → Lost g t slot v us w → Quiet v w
+lost_quiet : {X : Type 0} {says : Bool} (g : GroundOf says X) (t slot : ℕ) (v : View X) (us : List (View X)) (w : View X) → Lost g t slot v us w → Quiet v w
 lost_quiet g t slot v [] w is = quiet_same v w (ap View.trail is)
 lost_quiet g t slot v (u ∷ us) w (n, step, taken, lost) = quiet_then (lost_quiet g t slot v us u lost) (quiet_step step tt)
 
-module _ {C O : Type 0} (tells : Bool) (state : C → CellState) (offers : O → Offers) (s : Store C O) (t slot : ℕ) where
+module _ {C O : Type 0} (tells : Bool) (state : C → CellState) {says : Bool} (offers : O → OffersOf says) (s : Store C O) (t slot : ℕ) where
   ended_quiet : {p q : Pass C} {then : Then} → TurnEnded tells state offers s p t slot then q → Quiet (view p) (view q)
   ended_quiet {p} {q} ended = quiet_then (quiet_same (view p) ended.from (returned_trail (basis tells state offers s).setting (tab_at (view p) t) t slot (shown tells state ended.cell) (view p) ended.from ended.returned)) (quiet_step ended.step tt)
 

@@ -27,9 +27,11 @@ use Rattle.core_model.specs.declared.view.View.{View}
 use Rattle.core_model.proofs.OffersTold.{reads_seen}
 use Rattle.core_model.proofs.Tabs.{tab_there}
 use Rattle.tab_states.specs.declared.desks.Desk.{Desk}
+use Rattle.store_rule.proofs.Saying.{when_then}
+use Rattle.core_model.specs.Offers.{OffersStand}
 use Rattle.store_rule.specs.declared.store.Pass.{Pass}
 use Rattle.store_rule.specs.declared.store.Store.{Store}
-use Rattle.store_rule.specs.Ground.{Ground, Offers, offering_of}
+use Rattle.store_rule.specs.Ground.{GroundOf, OffersOf, offering_of, is_said}
 use Rattle.store_rule.specs.Lending.{with_bytes}
 use Rattle.tab_states.specs.Desks.{buffer_at, with_buffer_at}
 use Rattle.store_rule.specs.Passes.{HasCell, HasRoom, IsOf, May, basis, hand, view}
@@ -60,7 +62,7 @@ some_same : (x y : ℕ) → Some x ≡ Some y → x ≡ y
 some_same x y z = ap (λ (o : Option ℕ). Rattle.std.proofs.Common.unwrap_or o x) z
 
 -- tries that were lost leave a reading tab as it was
-module _ {X : Type 0} (g : Ground X) (t slot : ℕ) (v : View X) (r : Reader X) (is : tab_at v t ≡ Reading r) (there : t < length v.tabs) where
+module _ {X : Type 0} {says : Bool} (g : GroundOf says X) (t slot : ℕ) (v : View X) (r : Reader X) (is : tab_at v t ≡ Reading r) (there : t < length v.tabs) where
   record Stayed (w : View X) : Type 0 where
     tabs : w.tabs ≡ v.tabs
     seen : w.seen ≡ v.seen
@@ -89,8 +91,8 @@ module _ {X : Type 0} where
   ended_reader r h true idle = refl
   ended_reader r h false idle = ap (λ (z : TurnOf X). Reading (record r { turn = z })) (sym idle)
 
-module _ {C O : Type 0} (tells : Bool) (state : C → CellState) (offers : O → Offers) (s : Store C O) (t : ℕ) (p : Pass C) (may : MayReadSlot tells state offers s p t) where
-  abbrev g : Ground (List ℕ)
+module _ {C O : Type 0} (tells : Bool) (state : C → CellState) {says : Bool} (offers : O → OffersOf says) (s : Store C O) (t : ℕ) (p : Pass C) (may : MayReadSlot tells state offers s p t) where
+  abbrev g : GroundOf (is_said says tells) (List ℕ)
   g = basis tells state offers s
 
   below_all : (q : Pass C) → t < length (view q).tabs
@@ -206,9 +208,10 @@ module _ {C O : Type 0} (tells : Bool) (state : C → CellState) (offers : O →
           holds offer seen = record {
             state = ends_from.state;
             rule = ends_from.rule;
-            reads = reads_seen (offering_of g) g.setting ends_from.state ends_from.rule.sound ends_from.rule.offered ends_from.index t with_turn (new_hold slot cell)
+            reads = when_then (is_said says tells) (λ (st : OffersStand (offering_of g) g.setting ends_from.state).
+                reads_seen (offering_of g) g.setting ends_from.state ends_from.rule.sound st ends_from.index t with_turn (new_hold slot cell)
                 record { view = view p1; at = ends_from.at; there = tab_there (view p1) t (Reading with_turn) (below_all p1) (tab_of p1 tabs1) } refl
-                ends_from.index (view p1) offer ends_from.at (seen1 (Named may.reader.anchor may.reader.version Offer offer) seen);
+                ends_from.index (view p1) offer ends_from.at (seen1 (Named may.reader.anchor may.reader.version Offer offer) seen)) ends_from.rule.offered;
           }
 
           pub read : ReadSlot g t (view p) done cell (view p5)

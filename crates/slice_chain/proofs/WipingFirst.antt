@@ -32,7 +32,7 @@ use Rattle.tab_states.specs.Desks.{buffer_at, with_buffer_at}
 use Rattle.tab_states.specs.Tabs.{head_of}
 use Rattle.store_rule.specs.declared.store.Pass.{Pass}
 use Rattle.store_rule.specs.declared.store.Store.{Store}
-use Rattle.store_rule.specs.Ground.{Ground, Offers}
+use Rattle.store_rule.specs.Ground.{GroundOf, OffersOf, is_said}
 use Rattle.store_rule.specs.Lending.{with_bytes}
 use Rattle.store_rule.specs.Passes.{HasCell, HasRoom, IsOf, Keeps, Made, May, basis, hand, view}
 use Rattle.store_rule.specs.Quiet.{Quiet}
@@ -80,8 +80,8 @@ module _ {X : Type 0} where
   tried_freer : (f : Freer X) (slot n : ℕ) (cell : Option (Cell X)) (h : Hold X) → turn_of (tries (Freeing f) slot n cell) ≡ Has h → tries (Freeing f) slot n cell ≡ Freeing (record f { turn = Has h })
   tried_freer f slot n cell h turn = ap (λ (z : Turn X). Freeing (record f { turn = z })) turn
 
-module _ {C O : Type 0} (tells : Bool) (state : C → CellState) (offers : O → Offers) (s : Store C O) (p : Pass C) (slot : ℕ) (may : MayWipeSlot tells state offers s p slot) where
-  abbrev g : Ground (List ℕ)
+module _ {C O : Type 0} (tells : Bool) (state : C → CellState) {says : Bool} (offers : O → OffersOf says) (s : Store C O) (p : Pass C) (slot : ℕ) (may : MayWipeSlot tells state offers s p slot) where
+  abbrev g : GroundOf (is_said says tells) (List ℕ)
   g = basis tells state offers s
 
   abbrev f : Freer (List ℕ)
@@ -260,7 +260,7 @@ module _ {C O : Type 0} (tells : Bool) (state : C → CellState) (offers : O →
             }
 
 -- The start of the chain is loaded, and the buffer for reading made blank.
-module _ {C O : Type 0} (tells : Bool) (state : C → CellState) (offers : O → Offers) (s : Store C O) (p : Pass C) (may : MayWipeFirst tells state offers s p) (n : ℕ) (p1 : Pass C) (loads : Made tells state offers s p (LoadSide inner Start) n p1) where
+module _ {C O : Type 0} (tells : Bool) (state : C → CellState) {says : Bool} (offers : O → OffersOf says) (s : Store C O) (p : Pass C) (may : MayWipeFirst tells state offers s p) (n : ℕ) (p1 : Pass C) (loads : Made tells state offers s p (LoadSide inner Start) n p1) where
   abbrev f0 : Freer (List ℕ)
   f0 = may.chain.freer
 

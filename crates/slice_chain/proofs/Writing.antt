@@ -18,11 +18,12 @@ use Rattle.core_model.specs.declared.tab.Turn.TheVariants.{Has}
 use Rattle.core_model.specs.declared.tab.Writer.{Writer}
 use Rattle.core_model.specs.declared.view.View.{View}
 use Rattle.std.proofs.lemmas.Bool.{eqb-true}
+use Rattle.store_rule.proofs.Saying.{when_then}
 use Rattle.store_rule.specs.Calls.{Follows}
 use Rattle.tab_states.specs.declared.desks.Desk.{Desk}
 use Rattle.store_rule.specs.declared.store.Pass.{Pass}
 use Rattle.store_rule.specs.declared.store.Store.{Store}
-use Rattle.store_rule.specs.Ground.{Ground, Offers, offering_of}
+use Rattle.store_rule.specs.Ground.{GroundOf, OffersOf, is_said, offering_of}
 use Rattle.tab_states.specs.Desks.{buffer_at}
 use Rattle.store_rule.specs.Passes.{HasCell, HasRoom, IsOf, May, basis, hand, view, Made}
 use Rattle.store_rule.specs.Ruled.{IsFitting}
@@ -50,7 +51,7 @@ left_or_new true before after bytes h x c = ⊎_elim (λ l. inl l) (λ e. inr (r
 left_or_new false before after bytes h x c = inl c
 
 -- a cell that was written has the image
-image_there : (tells : Bool) (offers : Offers) (slots slot : ℕ) (p : Piece) (c : CellState) (bytes : List ℕ) → (IsTrue tells → bytes ≡ image_in tells offers slots slot p) → (IsTrue tells → c.now ≡ bytes) → image_in tells offers slots slot p ≡ (shown_in tells c).now
+image_there : {says : Bool} (tells : Bool) (offers : OffersOf says) (slots slot : ℕ) (p : Piece) (c : CellState) (bytes : List ℕ) → (IsTrue tells → bytes ≡ image_in tells offers slots slot p) → (IsTrue tells → c.now ≡ bytes) → image_in tells offers slots slot p ≡ (shown_in tells c).now
 image_there true offers slots slot p c bytes buffer now = sym (now refl ∙ buffer refl)
 image_there false offers slots slot p c bytes buffer now = refl
 
@@ -75,8 +76,8 @@ tried_writer : (w : Writer (List ℕ)) (slot n : ℕ) (cell : Option (Cell (List
     → tries (Writing w) slot n cell ≡ Writing (record w { is_written = false; is_settled = false; turn = Has h })
 tried_writer w slot n cell h hit turn = λ i. Writing (record w { is_written = cond (hit i) false w.is_written; is_settled = cond (hit i) false w.is_settled; turn = turn i })
 
-module _ {C O : Type 0} (tells : Bool) (state : C → CellState) (offers : O → Offers) (s : Store C O) (p : Pass C) (t : ℕ) (may : MayWriteSlot tells state offers s p t) where
-  abbrev g : Ground (List ℕ)
+module _ {C O : Type 0} (tells : Bool) (state : C → CellState) {says : Bool} (offers : O → OffersOf says) (s : Store C O) (p : Pass C) (t : ℕ) (may : MayWriteSlot tells state offers s p t) where
+  abbrev g : GroundOf (is_said says tells) (List ℕ)
   g = basis tells state offers s
 
   abbrev writer : Writer (List ℕ)
@@ -108,7 +109,8 @@ module _ {C O : Type 0} (tells : Bool) (state : C → CellState) (offers : O →
     own = may.own;
     can = record {
       allowed = (may.below, subst (OfWriter (MayLog slot)) (sym may.is) (subst (λ (z : ℕ). MayLog z writer) (sym e) may.may));
-      asks = λ w is none. subst (λ (z : Writer (List ℕ)). KeepsTo (offering_of g) z (piece_of z)) (same_writer writer w (sym may.is ∙ is)) may.keeps;
+      asks = when_then (is_said says tells) (λ (keeps : KeepsTo (offering_of g) writer (piece_of writer)) (w : Writer (List ℕ)) is none.
+          subst (λ (z : Writer (List ℕ)). KeepsTo (offering_of g) z (piece_of z)) (same_writer writer w (sym may.is ∙ is)) keeps) may.keeps;
     };
   }
     where
@@ -220,7 +222,7 @@ same_cell {A} xs ys zs slot a b e f = ap (head_cell a) (sym e ∙ f)
     head_cell d (x ∷ xs) = unwrap_or x.1 d
 
 -- the cell of a turn that was taken lies in the place that was taken last
-pub taken_cell : {C O : Type 0} → (tells : Bool) (state : C → CellState) (offers : O → Offers) (s : Store C O) (p q : Pass C) (t slot : ℕ) → HasTaken tells state offers s p t slot q → (c : C) × HasCell q slot c
+pub taken_cell : {C O : Type 0} → (tells : Bool) (state : C → CellState) {says : Bool} (offers : O → OffersOf says) (s : Store C O) (p q : Pass C) (t slot : ℕ) → HasTaken tells state offers s p t slot q → (c : C) × HasCell q slot c
 taken_cell tells state offers s p q t slot h = (h.cell, (let e = h.place in rw e refl))
 
 pub on_err : {T E P : Type 0} (r : Result T E) → P → OnErr r P
@@ -230,7 +232,7 @@ on_err (Err e) h = h
 pub same_rest : {A : Type 0} → (xs ys zs : List A) (x y : A) → xs ≡ x ∷ ys → xs ≡ y ∷ zs → ys ≡ zs
 same_rest xs ys zs x y e f = ap (drop 1) (sym e ∙ f)
 
-module _ {C O : Type 0} (tells : Bool) (state : C → CellState) (offers : O → Offers) (s : Store C O) where
+module _ {C O : Type 0} (tells : Bool) (state : C → CellState) {says : Bool} (offers : O → OffersOf says) (s : Store C O) where
   -- buffers are as long as a slot
   pub buffer_long : (p : Pass C) (t : ℕ) → t ≤ inner → IsOf tells state offers s p → length (buffer_at p.desks t) ≡ (basis tells state offers s).slot
   buffer_long p t le own = of_desks p.desks t (let n = p.nine_desks in omega arith) own.buffers

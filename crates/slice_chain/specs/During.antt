@@ -14,7 +14,7 @@ use Rattle.core_model.specs.declared.tab.Turn.TheVariants.{Has}
 use Rattle.core_model.specs.declared.tab.Writer.{Writer}
 use Rattle.core_model.specs.declared.view.View.{View}
 use Rattle.core_log.specs.Within.{IsPossible, IsWriting}
-use Rattle.store_rule.specs.Ground.{Ground, Rule}
+use Rattle.store_rule.specs.Ground.{GroundOf, Rule}
 use Rattle.store_rule.specs.Turns.{MayReturn, new_hold}
 
 -- the tab has logged its next piece for this slot, and has the turn there, with this cell
@@ -44,7 +44,7 @@ pub record WasOut {X : Type 0} (k : Setting X) (w : Writer X) (slot : ℕ) (dura
 -- that the tab chose (`now`). So it is before, within and after a write, and within and after a sync, whether they succeed or not. Then each
 -- content that a crash may leave of it could be left of the slot's cell in that state, or it is a piece that was logged for the slot, which a
 -- tab reserves and may be writing. So it stands in `IsLeftWhile`, which says it of all slots at once.
-pub record IsLeftDuring (g : Ground (List ℕ)) (t slot : ℕ) (before : Cell (List ℕ)) (v : View (List ℕ)) : Type 0 where
+pub record IsLeftDuring {says : Bool} (g : GroundOf says (List ℕ)) (t slot : ℕ) (before : Cell (List ℕ)) (v : View (List ℕ)) : Type 0 where
   pub cell : (s : State (List ℕ)) (i : ℕ) → Rule g s → get_elem? s.views i ≡ some v → IsCell s slot before
   pub alone : (s : State (List ℕ)) (i : ℕ) → Rule g s → get_elem? s.views i ≡ some v → (c : Cell (List ℕ)) → IsCell s slot c → c ≡ before
   pub left : (s : State (List ℕ)) (i : ℕ) (rule : Rule g s) → get_elem? s.views i ≡ some v → (now : Cell (List ℕ)) → MayReturn g.setting (tab_at v t) before now

@@ -23,14 +23,14 @@ use Rattle.core_model.specs.declared.tab.Tab.TheVariants.{Free, Freeing}
 use Rattle.core_model.specs.declared.view.View.{View}
 use Rattle.store_rule.specs.declared.store.Pass.{Pass}
 use Rattle.store_rule.specs.declared.store.Store.{Store}
-use Rattle.store_rule.specs.Ground.{Ground, Offers}
+use Rattle.store_rule.specs.Ground.{GroundOf, OffersOf}
 use Rattle.store_rule.specs.Passes.{IsOf, hand, view}
 use Rattle.tab_states.specs.Tabs.{head_of}
 use Rattle.store_rule.specs.Told.{Stands, Steps}
 use Rattle.slice_chain.specs.Counts.{AddsSteps, many, of_kinds, slots_freed}
 
 -- the inner tab frees a chain of which this is the first slot, and has none that left it
-pub record MayFreeFront {C O : Type 0} (tells : Bool) (state : C → CellState) (offers : O → Offers) (s : Store C O) (p : Pass C) (slot : ℕ) : Type 0 where
+pub record MayFreeFront {C O : Type 0} (tells : Bool) (state : C → CellState) {says : Bool} (offers : O → OffersOf says) (s : Store C O) (p : Pass C) (slot : ℕ) : Type 0 where
   pub own : IsOf tells state offers s p
   pub freer : Freer (List ℕ)
   pub is : tab_at (view p) inner ≡ Freeing freer
@@ -43,7 +43,7 @@ abbrev pub with_less : {X : Type 0} → Freer X → Freer X
 with_less f = record f { rest = rest_of f.rest; is_whole = false; is_looked = false; loose = [] }
 
 -- Its link was loaded, it left the chain, and was given back. The next one is the second of the chain.
-pub record FrontFreed {X : Type 0} (g : Ground X) (slot : ℕ) (v : View X) (next : Option ℕ) (w : View X) : Type 0 where
+pub record FrontFreed {X : Type 0} {says : Bool} (g : GroundOf says X) (slot : ℕ) (v : View X) (next : Option ℕ) (w : View X) : Type 0 where
   pub freer : Freer X
   pub was : tab_at v inner ≡ Freeing freer
   pub front : freer.rest ≡ slot ∷ rest_of freer.rest
@@ -62,7 +62,7 @@ pub record FrontFreed {X : Type 0} (g : Ground X) (slot : ℕ) (v : View X) (nex
   pub next_is : next ≡ head_of (rest_of freer.rest)
 
 -- The inner tab frees a chain of which this is the first slot, if it has one. Where its anchor is taken for a new entry it has one.
-pub record MayFreeRest {C O : Type 0} (tells : Bool) (state : C → CellState) (offers : O → Offers) (s : Store C O) (p : Pass C) (front : Option ℕ) : Type 0 where
+pub record MayFreeRest {C O : Type 0} (tells : Bool) (state : C → CellState) {says : Bool} (offers : O → OffersOf says) (s : Store C O) (p : Pass C) (front : Option ℕ) : Type 0 where
   pub own : IsOf tells state offers s p
   pub freer : Freer (List ℕ)
   pub is : tab_at (view p) inner ≡ Freeing freer
@@ -72,7 +72,7 @@ pub record MayFreeRest {C O : Type 0} (tells : Bool) (state : C → CellState) (
   pub unheld : has_turn freer.turn ≡ false
 
 -- it frees a chain of which no slot has left yet
-pub record MayFreeChain {C O : Type 0} (tells : Bool) (state : C → CellState) (offers : O → Offers) (s : Store C O) (p : Pass C) : Type 0 where
+pub record MayFreeChain {C O : Type 0} (tells : Bool) (state : C → CellState) {says : Bool} (offers : O → OffersOf says) (s : Store C O) (p : Pass C) : Type 0 where
   pub own : IsOf tells state offers s p
   pub freer : Freer (List ℕ)
   pub is : tab_at (view p) inner ≡ Freeing freer
@@ -80,7 +80,7 @@ pub record MayFreeChain {C O : Type 0} (tells : Bool) (state : C → CellState) 
   pub none : freer.loose ≡ []
   pub unheld : has_turn freer.turn ≡ false
 
-module _ {C O : Type 0} (tells : Bool) (state : C → CellState) (offers : O → Offers) where
+module _ {C O : Type 0} (tells : Bool) (state : C → CellState) {says : Bool} (offers : O → OffersOf says) where
   -- The pass is of the store still. Every tab but this and the inner one is as it was, with the word that it left; all buffers and
   -- drafts are, and the place where the next search for an entry to evict begins.
   pub record FollowsTab (s : Store C O) (t : ℕ) (p q : Pass C) : Type 0 where
@@ -109,7 +109,7 @@ is_freeing_anchor _ = false
 abbrev pub WasGiven : List Item → ℕ → Type 0
 WasGiven items slot = (n : ℕ) × Contains items record { kind = Disowned; at = slot; found = n }
 
-module _ {X : Type 0} (g : Ground X) where
+module _ {X : Type 0} {says : Bool} (g : GroundOf says X) where
   -- Of the chain of the tab `f` these slots are left, and each other one was given back. The steps touched and changed links of that chain
   -- alone, and saw, did and drew nothing.
   pub record FreedSome (f : Freer X) (v : View X) (left : List ℕ) (w : View X) : Type 0 where

@@ -13,7 +13,7 @@ use Rattle.core_model.specs.declared.tab.Tab.TheVariants.{Reading}
 use Rattle.core_model.specs.declared.view.View.{View}
 use Rattle.store_rule.specs.declared.store.Pass.{Pass}
 use Rattle.store_rule.specs.declared.store.Store.{Store}
-use Rattle.store_rule.specs.Ground.{Ground, Offers}
+use Rattle.store_rule.specs.Ground.{GroundOf, OffersOf}
 use Rattle.store_rule.specs.Passes.{IsOf, view}
 use Rattle.store_rule.specs.Told.{Stands, Steps}
 
@@ -29,19 +29,19 @@ slot_known _ = None
 
 -- The tab wrote the piece that it chose into its first reserved slot, which is this one, and synced it where it is durable. The piece has
 -- this link.
-pub record MayPublishSlot {C O : Type 0} (tells : Bool) (state : C → CellState) (offers : O → Offers) (s : Store C O) (p : Pass C) (t slot : ℕ) (next : Option ℕ) : Type 0 where
+pub record MayPublishSlot {C O : Type 0} (tells : Bool) (state : C → CellState) {says : Bool} (offers : O → OffersOf says) (s : Store C O) (p : Pass C) (t slot : ℕ) (next : Option ℕ) : Type 0 where
   pub own : IsOf tells state offers s p
   pub below : t < inner
   pub inner_free : InnerIsFree (view p)
   pub wrote : OfWriter (WroteFirst slot (next_link next)) (tab_at (view p) t)
 
 -- The tab reads, and there is a slot at its place: it knows it, or it is at the first one.
-pub record MayLocate {C O : Type 0} (tells : Bool) (state : C → CellState) (offers : O → Offers) (s : Store C O) (p : Pass C) (t : ℕ) : Type 0 where
+pub record MayLocate {C O : Type 0} (tells : Bool) (state : C → CellState) {says : Bool} (offers : O → OffersOf says) (s : Store C O) (p : Pass C) (t : ℕ) : Type 0 where
   pub own : IsOf tells state offers s p
   pub below : t ≤ inner
   pub reads : OfReader (λ r. (r.place ≡ 0) ⊎ (r.slot ≢ None)) (tab_at (view p) t)
 
-module _ {X : Type 0} (g : Ground X) (t : ℕ) where
+module _ {X : Type 0} {says : Bool} (g : GroundOf says X) (t : ℕ) where
   -- a first slot was published, and then the start stored
   pub record PublishedFirst (slot : ℕ) (link : Link) (v w : View X) : Type 0 where
     pub none : OfWriter (λ x. x.published ≡ []) (tab_at v t)

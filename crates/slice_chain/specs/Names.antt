@@ -8,26 +8,26 @@ use Rattle.core_model.specs.declared.moves.Side.TheVariants.{Key0, Key1, Offer, 
 use Rattle.core_model.specs.declared.view.View.{View}
 use Rattle.store_rule.specs.declared.store.Pass.{Pass}
 use Rattle.store_rule.specs.declared.store.Store.{Store}
-use Rattle.store_rule.specs.Ground.{Ground, IsOfferFor, Offers}
+use Rattle.store_rule.specs.Ground.{GroundOf, IsOfferFor, OffersOf, When, is_said}
 use Rattle.store_rule.specs.Passes.{IsOf, basis, view}
 use Rattle.store_rule.specs.Told.{Steps}
 
--- The tab writes and has chosen no piece, and the offer is one for its anchor and this key.
-pub record MayNameEntry {C O : Type 0} (tells : Bool) (state : C → CellState) (offers : O → Offers) (s : Store C O) (p : Pass C) (t : ℕ) (key : List ℕ) (offer : ℕ) : Type 0 where
+-- The tab writes and has chosen no piece. Where it is known what is offered, the offer is one for its anchor and this key.
+pub record MayNameEntry {C O : Type 0} (tells : Bool) (state : C → CellState) {says : Bool} (offers : O → OffersOf says) (s : Store C O) (p : Pass C) (t : ℕ) (key : List ℕ) (offer : ℕ) : Type 0 where
   pub own : IsOf tells state offers s p
   pub below : t < inner
   pub inner_free : InnerIsFree (view p)
   pub unchosen : OfWriter (λ w. (w.is_appending ≡ false) × (w.chosen ≡ None) × (w.published ≡ [])) (tab_at (view p) t)
   pub from : (basis tells state offers s).setting.slots ≤ offer
-  pub fits : IsOfferFor (basis tells state offers s) offer (anchor_of (tab_at (view p) t)) (front_half key) (back_half key)
+  pub fits : When (is_said says tells) (IsOfferFor (basis tells state offers s) offer (anchor_of (tab_at (view p) t)) (front_half key) (back_half key))
 
 -- the tab reads
-pub record MayLoadNames {C O : Type 0} (tells : Bool) (state : C → CellState) (offers : O → Offers) (s : Store C O) (p : Pass C) (t : ℕ) : Type 0 where
+pub record MayLoadNames {C O : Type 0} (tells : Bool) (state : C → CellState) {says : Bool} (offers : O → OffersOf says) (s : Store C O) (p : Pass C) (t : ℕ) : Type 0 where
   pub own : IsOf tells state offers s p
   pub below : t ≤ inner
   pub reads : OfReader (λ r. Unit {0}) (tab_at (view p) t)
 
-module _ {X : Type 0} (g : Ground X) (t : ℕ) (v : View X) where
+module _ {X : Type 0} {says : Bool} (g : GroundOf says X) (t : ℕ) (v : View X) where
   -- the key, the offer and a start of 0 were stored, one after the other
   pub record Named (key : List ℕ) (offer : ℕ) (w : View X) : Type 0 where
     pub found0 : ℕ

@@ -19,7 +19,7 @@ use Rattle.core_model.specs.declared.view.Sight.TheVariants.{Named}
 use Rattle.core_model.specs.declared.view.View.{View}
 use Rattle.store_rule.specs.declared.store.Pass.{Pass}
 use Rattle.store_rule.specs.declared.store.Store.{Store}
-use Rattle.store_rule.specs.Ground.{Ground, Offers, Rule, offering_of}
+use Rattle.store_rule.specs.Ground.{GroundOf, OffersOf, Rule, When, offering_of}
 use Rattle.tab_states.specs.Desks.{buffer_at, with_buffer_at}
 use Rattle.store_rule.specs.Passes.{IsOf, basis, hand, view}
 use Rattle.store_rule.specs.Told.{Steps}
@@ -27,7 +27,7 @@ use Rattle.store_rule.specs.Turns.{Lost, new_hold}
 use Rattle.store_rule.specs.Calls.{Others}
 
 -- The tab reads, knows the slot at its place, and found its link written.
-pub record MayReadSlot {C O : Type 0} (tells : Bool) (state : C → CellState) (offers : O → Offers) (s : Store C O) (p : Pass C) (t : ℕ) : Type 0 where
+pub record MayReadSlot {C O : Type 0} (tells : Bool) (state : C → CellState) {says : Bool} (offers : O → OffersOf says) (s : Store C O) (p : Pass C) (t : ℕ) : Type 0 where
   pub own : IsOf tells state offers s p
   pub below : t ≤ inner
   pub reader : Reader (List ℕ)
@@ -40,11 +40,11 @@ pub record MayReadSlot {C O : Type 0} (tells : Bool) (state : C → CellState) (
 abbrev pub went_on : {X : Type 0} → Reader X → Reader X
 went_on r = record r { place = r.place + 1; slot = next_slot r.found; found = NotWritten; turn = NoTurn }
 
--- In some state that keeps the rule the cell holds the piece at the tab's place, of this offer.
-pub record HoldsPiece {X : Type 0} (g : Ground X) (offer : ℕ) (r : Reader X) (slot : ℕ) (cell : Cell X) : Type 0 where
+-- In some state that keeps the rule the cell holds the piece at the tab's place, of this offer, where it is known what is offered.
+pub record HoldsPiece {X : Type 0} {says : Bool} (g : GroundOf says X) (offer : ℕ) (r : Reader X) (slot : ℕ) (cell : Cell X) : Type 0 where
   pub state : State X
   pub rule : Rule g state
-  pub reads : ReadsOffer (offering_of g) g.setting state offer r (new_hold slot cell)
+  pub reads : When says (ReadsOffer (offering_of g) g.setting state offer r (new_hold slot cell))
 
 -- what comes with the end of a turn to read
 abbrev pub after_reading : Bool → Then
@@ -53,7 +53,7 @@ after_reading done = cond done GoesOn Stays
 -- The tab tried for the turn of the slot at its place until it had it, put the cell back as it was, and ended the turn. Where the read was
 -- done it is one place on, and else as before. The cell has the piece at its place, of each offer that the pass had seen of the version
 -- that it reads.
-pub record ReadSlot {X : Type 0} (g : Ground X) (t : ℕ) (v : View X) (done : Bool) (cell : Cell X) (w : View X) : Type 0 where
+pub record ReadSlot {X : Type 0} {says : Bool} (g : GroundOf says X) (t : ℕ) (v : View X) (done : Bool) (cell : Cell X) (w : View X) : Type 0 where
   pub reader : Reader X
   pub was : tab_at v t ≡ Reading reader
   pub slot : ℕ
@@ -68,7 +68,7 @@ pub record ReadSlot {X : Type 0} (g : Ground X) (t : ℕ) (v : View X) (done : B
   pub tabs : w.tabs ≡ with_tab v t (Reading (cond done (went_on reader) reader))
   pub piece : (offer : ℕ) → Contains v.seen (Named reader.anchor reader.version Offer offer) → HoldsPiece g offer (record reader { turn = Has (new_hold slot cell) }) slot cell
 
-module _ {C O : Type 0} (tells : Bool) (state : C → CellState) (offers : O → Offers) (s : Store C O) (t : ℕ) (p q : Pass C) where
+module _ {C O : Type 0} (tells : Bool) (state : C → CellState) {says : Bool} (offers : O → OffersOf says) (s : Store C O) (t : ℕ) (p q : Pass C) where
   -- The pass is of the store still, and all but this tab, the inner one and the buffer for reading is as it was.
   pub record FollowsReading : Type 0 where
     pub own : IsOf tells state offers s q

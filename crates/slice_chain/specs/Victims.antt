@@ -19,7 +19,7 @@ use Rattle.core_model.specs.declared.view.Place.TheVariants.{Anchor, Link}
 use Rattle.core_model.specs.declared.view.View.{View}
 use Rattle.store_rule.specs.declared.store.Pass.{Pass}
 use Rattle.store_rule.specs.declared.store.Store.{Store}
-use Rattle.store_rule.specs.Ground.{Ground, Offers, fits}
+use Rattle.store_rule.specs.Ground.{GroundOf, OffersOf, fits}
 use Rattle.store_rule.specs.Passes.{IsOf, basis, hand, view}
 use Rattle.store_rule.specs.Told.{Stands, Steps}
 use Rattle.store_rule.specs.Calls.{Others}
@@ -32,7 +32,7 @@ use Rattle.slice_chain.specs.Freeing.{MayFreeChain, WasGiven}
 abbrev pub WasFound : List Item → (a n : ℕ) → Type 0
 WasFound items a n = Contains items record { kind = Looked; at = a; found = n } ⊎ Contains items record { kind = Changed; at = a; found = n }
 
-module _ {X : Type 0} (g : Ground X) (a : ℕ) (v : View X) where
+module _ {X : Type 0} {says : Bool} (g : GroundOf says X) (a : ℕ) (v : View X) where
   -- After looks at the anchor and tries that were lost: this was the word there last, and the pass did, changed and drew nothing.
   pub record LooksAt (n : ℕ) (w : View X) : Type 0 where
     pub added : Added
@@ -65,7 +65,7 @@ module _ {X : Type 0} (g : Ground X) (a : ℕ) (v : View X) where
     pub stands : Stands g w
 
 -- The inner tab frees an entry at FREEING, of whose chain no slot has left yet, and a writing tab may reserve one more. The store does not fit.
-pub record MayKeepFirst {C O : Type 0} (tells : Bool) (state : C → CellState) (offers : O → Offers) (s : Store C O) (p : Pass C) (t : ℕ) : Type 0 where
+pub record MayKeepFirst {C O : Type 0} (tells : Bool) (state : C → CellState) {says : Bool} (offers : O → OffersOf says) (s : Store C O) (p : Pass C) (t : ℕ) : Type 0 where
   pub chain : MayFreeChain tells state offers s p
   pub below : t < inner
   pub freeing : chain.freer.is_freeing ≡ true
@@ -74,7 +74,7 @@ pub record MayKeepFirst {C O : Type 0} (tells : Bool) (state : C → CellState) 
   pub unfit : fits (basis tells state offers s) ≡ false
 
 -- The first slot of the chain was reserved by the tab, and each other one given back. The anchor is at GONE. No version was drawn.
-pub record KeptFirst {X : Type 0} (g : Ground X) (t : ℕ) (v : View X) (slot : ℕ) (w : View X) : Type 0 where
+pub record KeptFirst {X : Type 0} {says : Bool} (g : GroundOf says X) (t : ℕ) (v : View X) (slot : ℕ) (w : View X) : Type 0 where
   pub freer : Freer X
   pub was : tab_at v inner ≡ Freeing freer
   pub first : freer.rest ≡ slot ∷ rest_of freer.rest
@@ -92,7 +92,7 @@ pub record KeptFirst {X : Type 0} (g : Ground X) (t : ℕ) (v : View X) (slot : 
   pub left : has g w (Anchor freer.anchor) ≡ word
   pub from : freer.anchor < g.setting.anchors → Mine g v (Anchor freer.anchor) → word ≡ raised (has g v (Anchor freer.anchor)) 1
 
-module _ {C O : Type 0} (tells : Bool) (state : C → CellState) (offers : O → Offers) where
+module _ {C O : Type 0} (tells : Bool) (state : C → CellState) {says : Bool} (offers : O → OffersOf says) where
   -- The pass is of the store still, and all but this tab, the inner one and the hand is as it was.
   pub record FollowsEvicting (s : Store C O) (t : ℕ) (p q : Pass C) : Type 0 where
     pub own : IsOf tells state offers s q
@@ -110,7 +110,7 @@ abbrev pub hand_in : (anchors hand : ℕ) → ℕ
 hand_in anchors hand = cond (nat_lt hand anchors) hand 0
 
 -- The tab writes and may reserve one slot more, and the inner tab is free. The store does not fit.
-pub record MayEvictOne {C O : Type 0} (tells : Bool) (state : C → CellState) (offers : O → Offers) (s : Store C O) (p : Pass C) (t : ℕ) : Type 0 where
+pub record MayEvictOne {C O : Type 0} (tells : Bool) (state : C → CellState) {says : Bool} (offers : O → OffersOf says) (s : Store C O) (p : Pass C) (t : ℕ) : Type 0 where
   pub own : IsOf tells state offers s p
   pub below : t < inner
   pub inner_free : InnerIsFree (view p)
@@ -123,7 +123,7 @@ pub record FoundBusy (items : List Item) (a : ℕ) : Type 0 where
   pub found : WasFound items a word
   pub busy : is_idle word ≡ false
 
-module _ {X : Type 0} (g : Ground X) (hand : ℕ) (v : View X) where
+module _ {X : Type 0} {says : Bool} (g : GroundOf says X) (hand : ℕ) (v : View X) where
   -- So many anchors from the hand on were found without an idle entry. The pass did, changed and drew nothing.
   pub record PassedSome (steps : ℕ) (w : View X) : Type 0 where
     pub added : Added
@@ -179,5 +179,5 @@ module _ {X : Type 0} (g : Ground X) (hand : ℕ) (v : View X) where
         + many asked Disowned (length evicted.kept.freer.rest - 1) + many asked Raised 1)
 
 -- Those of a call that found none: one look at each anchor, and tries that were lost.
-abbrev pub CountsNone : {X : Type 0} → Ground X → (v w : View X) → Type 0
+abbrev pub CountsNone : {X : Type 0} {says : Bool} → GroundOf says X → (v w : View X) → Type 0
 CountsNone g v w = (asked : Kind → Bool) → asked Changed ≡ false → of_kinds asked w.trail ≡ of_kinds asked v.trail + many asked Looked g.setting.anchors

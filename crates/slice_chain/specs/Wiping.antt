@@ -19,7 +19,7 @@ use Rattle.core_model.specs.declared.view.Sight.TheVariants.{Wiped}
 use Rattle.core_model.specs.declared.view.View.{View}
 use Rattle.store_rule.specs.declared.store.Pass.{Pass}
 use Rattle.store_rule.specs.declared.store.Store.{Store}
-use Rattle.store_rule.specs.Ground.{Ground, Offers}
+use Rattle.store_rule.specs.Ground.{GroundOf, OffersOf}
 use Rattle.store_rule.specs.Passes.{IsOf, basis, hand, view}
 use Rattle.store_rule.specs.Told.{Steps}
 use Rattle.store_rule.specs.Turns.{IsReturned, MayReturn, new_hold}
@@ -27,13 +27,13 @@ use Rattle.tab_states.specs.Desks.{buffer_at, with_buffer_at}
 use Rattle.slice_chain.specs.Freeing.{MayFreeChain}
 
 -- The inner tab frees a doomed entry at FREEING, of whose slots none has left the chain.
-pub record MayWipeFirst {C O : Type 0} (tells : Bool) (state : C → CellState) (offers : O → Offers) (s : Store C O) (p : Pass C) : Type 0 where
+pub record MayWipeFirst {C O : Type 0} (tells : Bool) (state : C → CellState) {says : Bool} (offers : O → OffersOf says) (s : Store C O) (p : Pass C) : Type 0 where
   pub chain : MayFreeChain tells state offers s p
   pub freeing : chain.freer.is_freeing ≡ true
   pub doomed : chain.freer.is_doomed ≡ true
 
 -- This is the first one, and the buffer for reading has the blank content.
-pub record MayWipeSlot {C O : Type 0} (tells : Bool) (state : C → CellState) (offers : O → Offers) (s : Store C O) (p : Pass C) (slot : ℕ) : Type 0 where
+pub record MayWipeSlot {C O : Type 0} (tells : Bool) (state : C → CellState) {says : Bool} (offers : O → OffersOf says) (s : Store C O) (p : Pass C) (slot : ℕ) : Type 0 where
   pub own : IsOf tells state offers s p
   pub freer : Freer (List ℕ)
   pub is : tab_at (view p) inner ≡ Freeing freer
@@ -57,7 +57,7 @@ pub record WasBlanked {X : Type 0} (k : Setting X) (f : Freer X) (slot : ℕ) (t
 
 -- The inner tab took the turn of the first slot of its chain by a single try, put the cell back, and ended the turn. Its tabs are as they
 -- were. Where write and sync were done, its pass has seen that the slot was wiped, for the version that the tab frees.
-pub record WipedSlot {X : Type 0} (g : Ground X) (slot : ℕ) (v : View X) (done : Bool) (w : View X) : Type 0 where
+pub record WipedSlot {X : Type 0} {says : Bool} (g : GroundOf says X) (slot : ℕ) (v : View X) (done : Bool) (w : View X) : Type 0 where
   pub freer : Freer X
   pub was : tab_at v inner ≡ Freeing freer
   pub first : freer.rest ≡ slot ∷ rest_of freer.rest
@@ -72,7 +72,7 @@ pub record WipedSlot {X : Type 0} (g : Ground X) (slot : ℕ) (v : View X) (done
   pub seen : done ≡ true → Contains w.seen (Wiped freer.anchor freer.version slot)
 
 -- It did so behind a step that loaded the start of the chain.
-pub record WipedFirst {X : Type 0} (g : Ground X) (v : View X) (done : Bool) (w : View X) : Type 0 where
+pub record WipedFirst {X : Type 0} {says : Bool} (g : GroundOf says X) (v : View X) (done : Bool) (w : View X) : Type 0 where
   pub start : ℕ
   pub started : View X
   pub loads : Steps g v (LoadSide inner Start) start started
@@ -81,7 +81,7 @@ pub record WipedFirst {X : Type 0} (g : Ground X) (v : View X) (done : Bool) (w 
   pub was : tab_at v inner ≡ Freeing wiped.freer
   pub tabs : w.tabs ≡ v.tabs
 
-module _ {C O : Type 0} (tells : Bool) (state : C → CellState) (offers : O → Offers) where
+module _ {C O : Type 0} (tells : Bool) (state : C → CellState) {says : Bool} (offers : O → OffersOf says) where
   -- The pass is of the store still, and beside its view all but the buffer for reading is as it was.
   pub record FollowsWiping (s : Store C O) (p q : Pass C) : Type 0 where
     pub own : IsOf tells state offers s q

@@ -16,7 +16,7 @@ use Rattle.core_model.specs.declared.view.Kind.TheVariants.{Ended, Logged, Tried
 use Rattle.core_model.specs.declared.view.View.{View}
 use Rattle.store_rule.specs.declared.store.Pass.{Pass}
 use Rattle.store_rule.specs.declared.store.Store.{Store}
-use Rattle.store_rule.specs.Ground.{Ground, Offers, offering_of}
+use Rattle.store_rule.specs.Ground.{GroundOf, OffersOf, When, is_said, offering_of}
 use Rattle.tab_states.specs.Desks.{buffer_at}
 use Rattle.store_rule.specs.Passes.{IsOf, basis, view}
 use Rattle.tab_states.specs.Tabs.{head_of}
@@ -30,9 +30,9 @@ abbrev pub reserved_first : {X : Type 0} → Tab X → Option ℕ
 reserved_first (Writing w) = head_of w.reserved
 reserved_first _ = None
 
--- The tab writes, has named its entry and reserved a slot, has chosen no piece yet, and its buffer has the image of its next piece. That is
--- the last one of the offer exactly where the tab reserved no other slot.
-pub record MayWriteSlot {C O : Type 0} (tells : Bool) (state : C → CellState) (offers : O → Offers) (s : Store C O) (p : Pass C) (t : ℕ) : Type 0 where
+-- The tab writes, has named its entry and reserved a slot, has chosen no piece yet, and its buffer has the image of its next piece. Where it is
+-- known what is offered, that is the last one of the offer exactly where the tab reserved no other slot.
+pub record MayWriteSlot {C O : Type 0} (tells : Bool) (state : C → CellState) {says : Bool} (offers : O → OffersOf says) (s : Store C O) (p : Pass C) (t : ℕ) : Type 0 where
   pub own : IsOf tells state offers s p
   pub below : t < inner
   pub writer : Writer (List ℕ)
@@ -40,7 +40,7 @@ pub record MayWriteSlot {C O : Type 0} (tells : Bool) (state : C → CellState) 
   pub slot : ℕ
   pub may : MayLog slot writer
   pub idle : has_turn writer.turn ≡ false
-  pub keeps : KeepsTo (offering_of (basis tells state offers s)) writer (piece_of writer)
+  pub keeps : When (is_said says tells) (KeepsTo (offering_of (basis tells state offers s)) writer (piece_of writer))
   pub buffer : IsTrue tells → buffer_at p.desks t ≡ (basis tells state offers s).setting.image (piece_of writer)
 
 -- the tab has logged its next piece for this slot, and chosen it so; this is known of the cell of that slot, which is home
@@ -56,7 +56,7 @@ chose w slot durable written settled = record w {
 
 -- The tab logged its next piece for its first reserved slot, took the turn there by a single try, put the cell back, and ended the turn.
 -- Where the write was done, the piece is known to be in the cell, and alone there where it is to be durable.
-pub record WroteSlot {X : Type 0} (g : Ground X) (t : ℕ) (v : View X) (durable done : Bool) (w : View X) : Type 0 where
+pub record WroteSlot {X : Type 0} {says : Bool} (g : GroundOf says X) (t : ℕ) (v : View X) (durable done : Bool) (w : View X) : Type 0 where
   pub writer : Writer X
   pub was : tab_at v t ≡ Writing writer
   pub slot : ℕ

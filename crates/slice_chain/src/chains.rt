@@ -9,11 +9,11 @@ ghost use Rattle.store_rule.specs.Passes.{basis, view};
 use core_model::{INNER_TAB, Side};
 use lock_word::Stage;
 use rock_disk::Cell;
-use store_rule::{Origin, Pass, Store};
+use store_rule::{AnyOrigin, Pass, Store};
 use tab_states::next_slot;
 
 // Gives back the first slot of the chain that the inner tab frees, and answers the next one.
-fn free_front<C: Cell, O: Origin>(store: &Store<C, O>, pass: &mut Pass<C>, slot: u32) -> Option<u32>
+fn free_front<C: Cell, O: AnyOrigin>(store: &Store<C, O>, pass: &mut Pass<C>, slot: u32) -> Option<u32>
     requires { MayFreeFront C.tells C.state O.offers store.now pass.old slot }
     ensures freed { FrontFreed (basis C.tells C.state O.offers store.now) slot (view pass.old) result (view pass.new) }
     ensures others { Follows C.tells C.state O.offers store.now inner pass.old pass.new }
@@ -27,7 +27,7 @@ fn free_front<C: Cell, O: Origin>(store: &Store<C, O>, pass: &mut Pass<C>, slot:
 
 /// Gives back every slot of the entry that the inner tab frees, and frees the tab. Where its anchor is at
 /// FREEING, that is GONE afterwards.
-pub fn free_chain<C: Cell, O: Origin>(store: &Store<C, O>, pass: &mut Pass<C>)
+pub fn free_chain<C: Cell, O: AnyOrigin>(store: &Store<C, O>, pass: &mut Pass<C>)
     requires { MayFreeChain C.tells C.state O.offers store.now pass.old }
     ensures freed { Freed (basis C.tells C.state O.offers store.now) (view pass.old) (view pass.new) }
     ensures counted { CountsFreed (view pass.old) (view pass.new) }
@@ -61,7 +61,7 @@ pub(crate) fn first_slot(start: u64) -> Option<u32>
 }
 
 // Gives back the slots of the chain that the inner tab frees, of which this is the first, if there is one.
-pub(crate) fn free_rest<C: Cell, O: Origin>(
+pub(crate) fn free_rest<C: Cell, O: AnyOrigin>(
     store: &Store<C, O>,
     pass: &mut Pass<C>,
     front: Option<u32>,

@@ -10,12 +10,12 @@ ghost use Rattle.store_rule.specs.Passes.{basis, view};
 use core_model::Side;
 use link_word::Link;
 use rock_disk::Cell;
-use store_rule::{Origin, Pass, Store};
+use store_rule::{AnyOrigin, Pass, Store};
 
 /// Publishes the first slot that a writing tab reserved, whose cell is home and has the piece that the tab
 /// chose, alone where that is durable: sets its link, to the next slot or as the last one. For the first slot of
 /// the entry it then stores where the entry starts.
-pub fn publish<C: Cell, O: Origin>(
+pub fn publish<C: Cell, O: AnyOrigin>(
     store: &Store<C, O>,
     pass: &mut Pass<C>,
     tab: u8,
@@ -49,7 +49,7 @@ fn link_to(next: Option<u32>) -> Link
 
 /// Looks at the link of the slot at a reading tab's place. Where the tab does not know that slot yet, it
 /// begins, and loads where the entry starts.
-pub fn link<C: Cell, O: Origin>(store: &Store<C, O>, pass: &mut Pass<C>, tab: u8) -> Link
+pub fn link<C: Cell, O: AnyOrigin>(store: &Store<C, O>, pass: &mut Pass<C>, tab: u8) -> Link
     requires { MayLocate C.tells C.state O.offers store.now pass.old tab }
     ensures linked { Linked (basis C.tells C.state O.offers store.now) tab result (view pass.old) (view pass.new) }
     ensures others { Follows C.tells C.state O.offers store.now tab pass.old pass.new }
@@ -60,7 +60,7 @@ pub fn link<C: Cell, O: Origin>(store: &Store<C, O>, pass: &mut Pass<C>, tab: u8
 }
 
 // The slot at a reading tab's place.
-fn locate<C: Cell, O: Origin>(store: &Store<C, O>, pass: &mut Pass<C>, tab: u8) -> u32
+fn locate<C: Cell, O: AnyOrigin>(store: &Store<C, O>, pass: &mut Pass<C>, tab: u8) -> u32
     requires { MayLocate C.tells C.state O.offers store.now pass.old tab }
     ensures located { Located (basis C.tells C.state O.offers store.now) tab result (view pass.old) (view pass.new) }
     ensures others { Follows C.tells C.state O.offers store.now tab pass.old pass.new }

@@ -10,7 +10,7 @@ ghost use Rattle.store_rule.specs.Passes.{Made, basis, view};
 
 use core_model::Side;
 use rock_disk::Cell;
-use store_rule::{Origin, Pass, Store};
+use store_rule::{AnyOrigin, Pass, Store};
 
 /// The first eight bytes of a key as a number, the lowest first.
 fn front_of(key: &[u8; 16]) -> u64
@@ -45,7 +45,7 @@ fn key_of_halves(front: u64, back: u64) -> [u8; 16]
 
 /// Names the entry that a tab begins: stores its key, its offer, and 0 as its start. The offer's number is its
 /// number for the origin and that of all slots more.
-pub fn name_entry<C: Cell, O: Origin>(
+pub fn name_entry<C: Cell, O: AnyOrigin>(
     store: &Store<C, O>,
     pass: &mut Pass<C>,
     tab: u8,
@@ -64,7 +64,7 @@ pub fn name_entry<C: Cell, O: Origin>(
 }
 
 /// The key kept for the version that a tab reads.
-pub fn entry_key<C: Cell, O: Origin>(store: &Store<C, O>, pass: &mut Pass<C>, tab: u8) -> [u8; 16]
+pub fn entry_key<C: Cell, O: AnyOrigin>(store: &Store<C, O>, pass: &mut Pass<C>, tab: u8) -> [u8; 16]
     requires { MayLoadNames C.tells C.state O.offers store.now pass.old tab }
     ensures loaded { KeyLoaded (basis C.tells C.state O.offers store.now) tab (view pass.old) result (view pass.new) }
     ensures others { Follows C.tells C.state O.offers store.now tab pass.old pass.new }
@@ -76,7 +76,7 @@ pub fn entry_key<C: Cell, O: Origin>(store: &Store<C, O>, pass: &mut Pass<C>, ta
 }
 
 /// The offer kept for the version that a tab reads.
-pub fn entry_offer<C: Cell, O: Origin>(store: &Store<C, O>, pass: &mut Pass<C>, tab: u8) -> u64
+pub fn entry_offer<C: Cell, O: AnyOrigin>(store: &Store<C, O>, pass: &mut Pass<C>, tab: u8) -> u64
     requires { MayLoadNames C.tells C.state O.offers store.now pass.old tab }
     ensures made { Made C.tells C.state O.offers store.now pass.old (LoadSide tab Side.Offer) result pass.new }
     ensures others { Follows C.tells C.state O.offers store.now tab pass.old pass.new }

@@ -19,7 +19,7 @@ use core_model::{INNER_TAB, Then};
 use rock_disk::{Cell, Station};
 use rock_io::Failed;
 use std::sync::Wait;
-use store_rule::{Origin, Pass, Store};
+use store_rule::{AnyOrigin, Pass, Store};
 
 /// Logs the next piece of a writing tab, whose image is in the tab's buffer, and writes it into the cell of the
 /// first slot that the tab reserved. If it is to be durable, it is logged so, and the cell is synced. The turn at
@@ -33,7 +33,7 @@ use store_rule::{Origin, Pass, Store};
 ///
 /// A station that tells it was called once for the write, and once more for a sync where the piece is to be durable and
 /// the write did not fail.
-pub fn write_slot<C: Cell, O: Origin, St: Station<C = C>>(
+pub fn write_slot<C: Cell, O: AnyOrigin, St: Station<C = C>>(
     store: &Store<C, O>,
     pass: &mut Pass<C>,
     station: &mut St,
@@ -74,7 +74,7 @@ pub fn write_slot<C: Cell, O: Origin, St: Station<C = C>>(
 /// # Errors
 ///
 /// The station failed. The tab is as before.
-pub fn read_slot<R: Wait, C: Cell, O: Origin, St: Station<C = C>>(
+pub fn read_slot<R: Wait, C: Cell, O: AnyOrigin, St: Station<C = C>>(
     rt: &R,
     store: &Store<C, O>,
     pass: &mut Pass<C>,

@@ -12,7 +12,7 @@ use crate::chains::{first_slot, free_rest};
 use core_model::{INNER_TAB, Side};
 use lock_word::{Stage, is_idle, pack};
 use rock_disk::Cell;
-use store_rule::{Origin, Pass, Store};
+use store_rule::{AnyOrigin, Pass, Store};
 use tab_states::next_slot;
 
 /// No anchor was found with an idle entry.
@@ -27,7 +27,7 @@ pub struct NoVictim;
 ///
 /// Each anchor was found without an idle entry at a step of this call. The hand stays, and no anchor and no
 /// tab has changed.
-pub fn evict_one<C: Cell, O: Origin>(
+pub fn evict_one<C: Cell, O: AnyOrigin>(
     store: &Store<C, O>,
     pass: &mut Pass<C>,
     tab: u8,
@@ -77,7 +77,7 @@ fn first_in_round(anchors: u32, hand: u32) -> u32
 
 // Has the entry of an anchor freed, where it is idle. A try that is lost to another pass is made again where
 // the word that it found is idle too; versions rise, so this ends.
-fn try_evict<C: Cell, O: Origin>(store: &Store<C, O>, pass: &mut Pass<C>, anchor: u32) -> bool
+fn try_evict<C: Cell, O: AnyOrigin>(store: &Store<C, O>, pass: &mut Pass<C>, anchor: u32) -> bool
     requires own { IsOf C.tells C.state O.offers store.now pass.old }
     requires anchor { anchor < (basis C.tells C.state O.offers store.now).setting.anchors }
     requires free { InnerIsFree (view pass.old) }
@@ -99,7 +99,7 @@ fn try_evict<C: Cell, O: Origin>(store: &Store<C, O>, pass: &mut Pass<C>, anchor
 
 // Gives back the slots of the entry that the inner tab frees, but for the first one, which a writing tab has
 // reserved then.
-fn keep_first<C: Cell, O: Origin>(store: &Store<C, O>, pass: &mut Pass<C>, tab: u8) -> u32
+fn keep_first<C: Cell, O: AnyOrigin>(store: &Store<C, O>, pass: &mut Pass<C>, tab: u8) -> u32
     requires { MayKeepFirst C.tells C.state O.offers store.now pass.old tab }
     ensures kept { KeptFirst (basis C.tells C.state O.offers store.now) tab (view pass.old) result (view pass.new) }
     ensures others { FollowsEvicting C.tells C.state O.offers store.now tab pass.old pass.new }

@@ -14,7 +14,7 @@ use crate::chains::first_slot;
 use core_model::{INNER_TAB, Side, Then};
 use rock_disk::{Cell, Station};
 use rock_io::Failed;
-use store_rule::{Origin, Pass, Store};
+use store_rule::{AnyOrigin, Pass, Store};
 
 /// Wipes the first slot of the doomed entry that the inner tab frees, of which no slot was given back yet: writes zeros
 /// into its cell, and syncs that. Behind `Ok` the pass has seen that the slot was wiped, for the version of the entry. The
@@ -26,7 +26,7 @@ use store_rule::{Origin, Pass, Store};
 /// The station failed. It is not known what the cell holds then, and nothing was seen of it.
 ///
 /// A station that tells it was called once for the write, and once more for the sync where the write did not fail.
-pub fn wipe_first<C: Cell, O: Origin, St: Station<C = C>>(
+pub fn wipe_first<C: Cell, O: AnyOrigin, St: Station<C = C>>(
     store: &Store<C, O>,
     pass: &mut Pass<C>,
     station: &mut St,
@@ -50,7 +50,7 @@ pub fn wipe_first<C: Cell, O: Origin, St: Station<C = C>>(
 }
 
 // Writes the buffer for reading, which has the blank content, into the cell of this slot, and syncs it.
-fn wipe_slot<C: Cell, O: Origin, St: Station<C = C>>(
+fn wipe_slot<C: Cell, O: AnyOrigin, St: Station<C = C>>(
     store: &Store<C, O>,
     pass: &mut Pass<C>,
     station: &mut St,

@@ -17,9 +17,9 @@ use test_rows::{numbers, short};
 struct Nothing;
 
 impl Origin for Nothing {
-    ghost use Rattle.std.specs.Prelude.{[], None, true};
+    ghost use Rattle.std.specs.Prelude.{[], None};
 
-    ghost offers = { λ _. record { url = λ n. []; body = λ n. []; alone = λ anchors a. None; need = λ anchors slot a. 4096; told = true } };
+    ghost offers = { λ _. record { url = λ n. []; body = λ n. []; alone = λ anchors a. None; need = λ anchors slot a. 4096 } };
 }
 
 /// How many pages a seat can take, at most 100.

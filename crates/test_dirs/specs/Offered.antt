@@ -1,5 +1,5 @@
 -- What the files of these tests are offered, and how the passes of a worker stand between two calls.
-use Rattle.std.specs.Prelude.{Bool, List, None, Some, cond, true, length, slice_get, ◌==◌, ◌≡◌, ◌≢◌, ℕ}
+use Rattle.std.specs.Prelude.{Bool, List, None, Some, cond, length, slice_get, ◌==◌, ◌≡◌, ◌≢◌, ℕ}
 use Rattle.core_model.specs.Tabs.{InnerIsFree, tab_at}
 use Rattle.core_model.specs.declared.tab.Tab.TheVariants.{Free}
 use Rattle.rock_disk.specs.Cell.{CellState}
@@ -17,7 +17,7 @@ use Rattle.test_dirs.specs.declared.shelf.TwoUrls.{TwoUrls}
 -- The first offer has this URL, and each other one the second. All have one body, and no anchor is left to one pass. An offer may take as
 -- many slots as an entry may have at most.
 abbrev pub offers_in : (first second body : List ℕ) → Offers
-offers_in first second body = record { url = λ n. cond (n == 0) first second; body = λ n. body; alone = λ anchors a. None; need = λ anchors slot a. 4096; told = true }
+offers_in first second body = record { url = λ n. cond (n == 0) first second; body = λ n. body; alone = λ anchors a. None; need = λ anchors slot a. 4096 }
 
 abbrev pub offers_of : TwoUrls → Offers
 offers_of o = offers_in o.first.value.items o.second.value.items o.body.value.items

@@ -1,5 +1,5 @@
 -- What the lines of a script offer where passes serve the lines of several workers.
-use Rattle.std.specs.Prelude.{List, None, true}
+use Rattle.std.specs.Prelude.{List, None}
 use Rattle.rock_run.specs.Offered.{offers_of}
 use Rattle.script_text.specs.declared.line.Line.{Line}
 use Rattle.store_rule.specs.Ground.{Offers}
@@ -11,5 +11,4 @@ shared_of lines = record {
   body = (offers_of lines).body;
   alone = λ anchors anchor. None;
   need = (offers_of lines).need;
-  told = true;
 }

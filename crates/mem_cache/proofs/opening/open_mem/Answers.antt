@@ -15,7 +15,7 @@ returns-in-Ok-fresh-clause-store g c =
     let e = c.in-Ok-fresh.ensures in
     let tells = g.D.Cell.tells in
     let s = c.in-Ok-fresh.made.0 in
-    let ground = basis tells cell_state g.O.Origin.offers s in
+    let ground = basis tells cell_state g.O.AnyOrigin.offers s in
     let size = (key c.args.pool.now).size in
     let many : length c.in-Ok.cells.items ≡ c.args.pages =
     let most = c.in-Ok.ensures.most in let long = c.in-Ok.cells.ok.0 in let all = c.if-len-pages.false in let len = c.len.ensures in omega (arith, most, long, all, len) in

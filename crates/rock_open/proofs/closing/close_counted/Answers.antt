@@ -6,15 +6,15 @@ use Rattle.rock_open.proofs.closing.close_counted.Goals as goal
 
 pub count_closed-kept-requires-clause-words : goal.count_closed-kept-requires-clause-words
 count_closed-kept-requires-clause-words g c =
-    let b = basis g.C.Cell.tells g.C.Cell.state g.O.Origin.offers c.args.store in
+    let b = basis g.C.Cell.tells g.C.Cell.state g.O.AnyOrigin.offers c.args.store in
     let e = c.close-table.ensures.ended in
     (b.setting, e.closed.gathered.state, words_so g.C.Cell.tells g.C.Cell.state b _ _ _ e _ _ c.anchors-anchors.ensures.value c.slots-slots.ensures.value)
 
 pub returns : goal.returns
 returns g c =
-    let b = basis g.C.Cell.tells g.C.Cell.state g.O.Origin.offers c.args.store in
+    let b = basis g.C.Cell.tells g.C.Cell.state g.O.AnyOrigin.offers c.args.store in
     let e = c.close-table.ensures.ended in
-    let settled = c.closed_stores_are_settled.ensures b (views_of c.args.passes.items) e.cells e.closed in
+    let settled = c.closed_stores_are_settled.ensures _ b (views_of c.args.passes.items) e.cells e.closed in
     let words = words_so g.C.Cell.tells g.C.Cell.state b _ _ _ e _ _ c.anchors-anchors.ensures.value c.slots-slots.ensures.value in
     let counts = c.count_closed-kept.ensures in
     counted g.C.Cell.tells g.C.Cell.state b _ _ _ e settled _ (counts.kept b.setting e.closed.gathered.state words)

@@ -5,14 +5,14 @@ use Rattle.store_rule.proofs.Quieting.{quiet_then}
 use Rattle.rock_reader.proofs.entry.judge.Goals as goal
 
 pub returns-in-Some-clause-others : goal.returns-in-Some-clause-others
-returns-in-Some-clause-others g c = follows_both g.C.Cell.tells g.C.Cell.state g.O.Origin.offers c.args.store.now c.args.pass.now c.args.tab c.part.new.pass c.entry_key-key.new.pass
-    (follows_tab g.C.Cell.tells g.C.Cell.state g.O.Origin.offers c.args.store.now c.args.pass.now c.args.tab c.entry_key-key.new.pass c.entry_key-key.ensures.others) c.part.ensures.others
+returns-in-Some-clause-others g c = follows_both g.C.Cell.tells g.C.Cell.state g.O.AnyOrigin.offers c.args.store.now c.args.pass.now c.args.tab c.part.new.pass c.entry_key-key.new.pass
+    (follows_tab g.C.Cell.tells g.C.Cell.state g.O.AnyOrigin.offers c.args.store.now c.args.pass.now c.args.tab c.entry_key-key.new.pass c.entry_key-key.ensures.others) c.part.ensures.others
 
 pub returns-in-None-clause-stays : goal.returns-in-None-clause-stays
-returns-in-None-clause-stays g c = key_tabs (basis g.C.Cell.tells g.C.Cell.state g.O.Origin.offers c.args.store.now) (view c.args.pass.now) (view c.entry_key-key.new.pass) c.args.tab c.entry_key-key.result c.entry_key-key.ensures.loaded
+returns-in-None-clause-stays g c = key_tabs (basis g.C.Cell.tells g.C.Cell.state g.O.AnyOrigin.offers c.args.store.now) (view c.args.pass.now) (view c.entry_key-key.new.pass) c.args.tab c.entry_key-key.result c.entry_key-key.ensures.loaded
 
 pub returns-in-None-clause-others : goal.returns-in-None-clause-others
-returns-in-None-clause-others g c = follows_tab g.C.Cell.tells g.C.Cell.state g.O.Origin.offers c.args.store.now c.args.pass.now c.args.tab c.entry_key-key.new.pass c.entry_key-key.ensures.others
+returns-in-None-clause-others g c = follows_tab g.C.Cell.tells g.C.Cell.state g.O.AnyOrigin.offers c.args.store.now c.args.pass.now c.args.tab c.entry_key-key.new.pass c.entry_key-key.ensures.others
 
 pub returns-in-Some-clause-quiet : goal.returns-in-Some-clause-quiet
 returns-in-Some-clause-quiet g c = quiet_then c.entry_key-key.ensures.quiet c.part.ensures.quiet

@@ -25,10 +25,10 @@ pub read_on-requires-clause-may : goal.read_on-requires-clause-may
 read_on-requires-clause-may g c = c.requires
 
 pub read_on-requires-clause-there : goal.read_on-requires-clause-there
-read_on-requires-clause-there g c = may_locate g.C.Cell.tells g.C.Cell.state g.O.Origin.offers c.args.store.now c.args.tab c.args.pass.now (length c.args.out.now) c.requires (c.in-Slot.ensures.slot refl)
+read_on-requires-clause-there g c = may_locate g.C.Cell.tells g.C.Cell.state g.O.AnyOrigin.offers c.args.store.now c.args.tab c.args.pass.now (length c.args.out.now) c.requires (c.in-Slot.ensures.slot refl)
 
 pub read_on-requires-clause-known : goal.read_on-requires-clause-known
-read_on-requires-clause-known g c = has_held g.C.Cell.tells g.C.Cell.state g.O.Origin.offers c.args.store.now c.args.tab c.args.pass.now (c.in-Slot.ensures.slot refl)
+read_on-requires-clause-known g c = has_held g.C.Cell.tells g.C.Cell.state g.O.AnyOrigin.offers c.args.store.now c.args.tab c.args.pass.now (c.in-Slot.ensures.slot refl)
 
 pub returns-in-Slot-clause-gave : goal.returns-in-Slot-clause-gave
 returns-in-Slot-clause-gave g c = c.read_on.ensures.gave
@@ -49,10 +49,10 @@ pub returns-in-Slot-clause-unfailed : goal.returns-in-Slot-clause-unfailed
 returns-in-Slot-clause-unfailed g c = c.read_on.ensures.unfailed
 
 pub returns-in-End-clause-gave : goal.returns-in-End-clause-gave
-returns-in-End-clause-gave g c e reads = ended g.C.Cell.tells g.C.Cell.state g.O.Origin.offers c.args.store.now c.args.tab c.args.pass.now e reads c.args.out.now (c.in-End.ensures.end refl)
+returns-in-End-clause-gave g c e reads = ended g.C.Cell.tells g.C.Cell.state g.O.AnyOrigin.offers c.args.store.now c.args.tab c.args.pass.now e reads c.args.out.now (c.in-End.ensures.end refl)
 
 pub returns-in-End-clause-others : goal.returns-in-End-clause-others
-returns-in-End-clause-others g c = follows_still g.C.Cell.tells g.C.Cell.state g.O.Origin.offers c.args.store.now c.args.tab c.args.pass.now c.requires.own
+returns-in-End-clause-others g c = follows_still g.C.Cell.tells g.C.Cell.state g.O.AnyOrigin.offers c.args.store.now c.args.tab c.args.pass.now c.requires.own
 
 pub returns-in-End-clause-inner : goal.returns-in-End-clause-inner
 returns-in-End-clause-inner g c = refl
@@ -67,10 +67,10 @@ pub returns-in-End-clause-unfailed : goal.returns-in-End-clause-unfailed
 returns-in-End-clause-unfailed g c ne = refl
 
 pub returns-in-Other-clause-gave : goal.returns-in-Other-clause-gave
-returns-in-Other-clause-gave g c e reads = inl (turned_out g.C.Cell.tells g.C.Cell.state g.O.Origin.offers c.args.store.now c.args.tab c.args.pass.now e reads c.args.out.now (c.in-Other.ensures.other refl))
+returns-in-Other-clause-gave g c e reads = inl (turned_out g.C.Cell.tells g.C.Cell.state g.O.AnyOrigin.offers c.args.store.now c.args.tab c.args.pass.now e reads c.args.out.now (c.in-Other.ensures.other refl))
 
 pub returns-in-Other-clause-others : goal.returns-in-Other-clause-others
-returns-in-Other-clause-others g c = follows_still g.C.Cell.tells g.C.Cell.state g.O.Origin.offers c.args.store.now c.args.tab c.args.pass.now c.requires.own
+returns-in-Other-clause-others g c = follows_still g.C.Cell.tells g.C.Cell.state g.O.AnyOrigin.offers c.args.store.now c.args.tab c.args.pass.now c.requires.own
 
 pub returns-in-Other-clause-inner : goal.returns-in-Other-clause-inner
 returns-in-Other-clause-inner g c = refl

@@ -12,35 +12,35 @@ use Rattle.store_rule.proofs.Quieting.{quiet_then}
 use Rattle.rock_writer.proofs.beginning.take_anchor.Goals as goal
 
 pub take-requires-clause-may : goal.take-requires-clause-may
-take-requires-clause-may g c = let looks = subst (λ n. Steps (basis g.C.Cell.tells g.C.Cell.state g.O.Origin.offers c.args.store.now) (view c.args.pass.now) (Look c.args.anchor) n (view c.look-looked.new.pass)) (sym c.look-looked.ensures.made.answers) c.look-looked.ensures.made.step in
-    take_may g.C.Cell.tells g.C.Cell.state g.O.Origin.offers c.args.store.now c.args.pass.now c.look-looked.new.pass c.draw.new.pass c.args.tab c.args.anchor (word_number c.look-looked.result) c.in-Ok.version c.requires looks c.in-Ok.ensures.ok c.draw.ensures.kept.own (c.is_open.ensures.free c.if-not-is_open.false)
+take-requires-clause-may g c = let looks = subst (λ n. Steps (basis g.C.Cell.tells g.C.Cell.state g.O.AnyOrigin.offers c.args.store.now) (view c.args.pass.now) (Look c.args.anchor) n (view c.look-looked.new.pass)) (sym c.look-looked.ensures.made.answers) c.look-looked.ensures.made.step in
+    take_may g.C.Cell.tells g.C.Cell.state g.O.AnyOrigin.offers c.args.store.now c.args.pass.now c.look-looked.new.pass c.draw.new.pass c.args.tab c.args.anchor (word_number c.look-looked.result) c.in-Ok.version c.requires looks c.in-Ok.ensures.ok c.draw.ensures.kept.own (c.is_open.ensures.free c.if-not-is_open.false)
 
 pub returns-in-Ok-take-clause-ok : goal.returns-in-Ok-take-clause-ok
-returns-in-Ok-take-clause-ok g c = let looks = subst (λ n. Steps (basis g.C.Cell.tells g.C.Cell.state g.O.Origin.offers c.args.store.now) (view c.args.pass.now) (Look c.args.anchor) n (view c.look-looked.new.pass)) (sym c.look-looked.ensures.made.answers) c.look-looked.ensures.made.step in (
+returns-in-Ok-take-clause-ok g c = let looks = subst (λ n. Steps (basis g.C.Cell.tells g.C.Cell.state g.O.AnyOrigin.offers c.args.store.now) (view c.args.pass.now) (Look c.args.anchor) n (view c.look-looked.new.pass)) (sym c.look-looked.ensures.made.answers) c.look-looked.ensures.made.step in (
   word_number c.look-looked.result,
   record {
     seen = view c.look-looked.new.pass;
     looks = looks;
     drawn = view c.draw.new.pass;
     drew = c.in-Ok.ensures.ok;
-    takes = let m = c.in-Ok-take.ensures.ok in subst (λ n. Steps (basis g.C.Cell.tells g.C.Cell.state g.O.Origin.offers c.args.store.now) (view c.draw.new.pass) (Take c.args.tab c.args.anchor c.in-Ok.version) n (view c.take.new.pass)) (sym m.answers) m.step;
+    takes = let m = c.in-Ok-take.ensures.ok in subst (λ n. Steps (basis g.C.Cell.tells g.C.Cell.state g.O.AnyOrigin.offers c.args.store.now) (view c.draw.new.pass) (Take c.args.tab c.args.anchor c.in-Ok.version) n (view c.take.new.pass)) (sym m.answers) m.step;
     open_to = c.is_open.ensures.free c.if-not-is_open.false;
   },
 )
 
 pub returns-in-Ok-take-clause-others : goal.returns-in-Ok-take-clause-others
-returns-in-Ok-take-clause-others g c = follows_on g.C.Cell.tells g.C.Cell.state g.O.Origin.offers c.args.store.now c.args.tab c.args.pass.now c.draw.new.pass c.take.new.pass (follows_on g.C.Cell.tells g.C.Cell.state g.O.Origin.offers c.args.store.now c.args.tab c.args.pass.now c.look-looked.new.pass c.draw.new.pass (kept_follows g.C.Cell.tells g.C.Cell.state g.O.Origin.offers c.args.store.now c.args.tab c.args.pass.now c.look-looked.new.pass (let m = c.look-looked.ensures.made in record { own = m.own; left = m.left; places = m.places; desks = m.desks; hand = m.hand; cells = m.cells }) c.look-looked.ensures.tabs) (kept_follows g.C.Cell.tells g.C.Cell.state g.O.Origin.offers c.args.store.now c.args.tab c.look-looked.new.pass c.draw.new.pass c.draw.ensures.kept c.draw.ensures.tabs)) c.take.ensures.others
+returns-in-Ok-take-clause-others g c = follows_on g.C.Cell.tells g.C.Cell.state g.O.AnyOrigin.offers c.args.store.now c.args.tab c.args.pass.now c.draw.new.pass c.take.new.pass (follows_on g.C.Cell.tells g.C.Cell.state g.O.AnyOrigin.offers c.args.store.now c.args.tab c.args.pass.now c.look-looked.new.pass c.draw.new.pass (kept_follows g.C.Cell.tells g.C.Cell.state g.O.AnyOrigin.offers c.args.store.now c.args.tab c.args.pass.now c.look-looked.new.pass (let m = c.look-looked.ensures.made in record { own = m.own; left = m.left; places = m.places; desks = m.desks; hand = m.hand; cells = m.cells }) c.look-looked.ensures.tabs) (kept_follows g.C.Cell.tells g.C.Cell.state g.O.AnyOrigin.offers c.args.store.now c.args.tab c.look-looked.new.pass c.draw.new.pass c.draw.ensures.kept c.draw.ensures.tabs)) c.take.ensures.others
 
 pub returns-in-Err-take-clause-others : goal.returns-in-Err-take-clause-others
-returns-in-Err-take-clause-others g c = follows_on g.C.Cell.tells g.C.Cell.state g.O.Origin.offers c.args.store.now c.args.tab c.args.pass.now c.draw.new.pass c.take.new.pass (follows_on g.C.Cell.tells g.C.Cell.state g.O.Origin.offers c.args.store.now c.args.tab c.args.pass.now c.look-looked.new.pass c.draw.new.pass (kept_follows g.C.Cell.tells g.C.Cell.state g.O.Origin.offers c.args.store.now c.args.tab c.args.pass.now c.look-looked.new.pass (let m = c.look-looked.ensures.made in record { own = m.own; left = m.left; places = m.places; desks = m.desks; hand = m.hand; cells = m.cells }) c.look-looked.ensures.tabs) (kept_follows g.C.Cell.tells g.C.Cell.state g.O.Origin.offers c.args.store.now c.args.tab c.look-looked.new.pass c.draw.new.pass c.draw.ensures.kept c.draw.ensures.tabs)) c.take.ensures.others
+returns-in-Err-take-clause-others g c = follows_on g.C.Cell.tells g.C.Cell.state g.O.AnyOrigin.offers c.args.store.now c.args.tab c.args.pass.now c.draw.new.pass c.take.new.pass (follows_on g.C.Cell.tells g.C.Cell.state g.O.AnyOrigin.offers c.args.store.now c.args.tab c.args.pass.now c.look-looked.new.pass c.draw.new.pass (kept_follows g.C.Cell.tells g.C.Cell.state g.O.AnyOrigin.offers c.args.store.now c.args.tab c.args.pass.now c.look-looked.new.pass (let m = c.look-looked.ensures.made in record { own = m.own; left = m.left; places = m.places; desks = m.desks; hand = m.hand; cells = m.cells }) c.look-looked.ensures.tabs) (kept_follows g.C.Cell.tells g.C.Cell.state g.O.AnyOrigin.offers c.args.store.now c.args.tab c.look-looked.new.pass c.draw.new.pass c.draw.ensures.kept c.draw.ensures.tabs)) c.take.ensures.others
 
 pub returns-in-Err-take-clause-err : goal.returns-in-Err-take-clause-err
-returns-in-Err-take-clause-err g c = let looks = subst (λ n. Steps (basis g.C.Cell.tells g.C.Cell.state g.O.Origin.offers c.args.store.now) (view c.args.pass.now) (Look c.args.anchor) n (view c.look-looked.new.pass)) (sym c.look-looked.ensures.made.answers) c.look-looked.ensures.made.step in
+returns-in-Err-take-clause-err g c = let looks = subst (λ n. Steps (basis g.C.Cell.tells g.C.Cell.state g.O.AnyOrigin.offers c.args.store.now) (view c.args.pass.now) (Look c.args.anchor) n (view c.look-looked.new.pass)) (sym c.look-looked.ensures.made.answers) c.look-looked.ensures.made.step in
     let lost = c.in-Err-take.ensures.err in
-    let misses = subst (λ n. Steps (basis g.C.Cell.tells g.C.Cell.state g.O.Origin.offers c.args.store.now) (view c.draw.new.pass) (Take c.args.tab c.args.anchor c.in-Ok.version) n (view c.take.new.pass)) (sym lost.0.answers) lost.0.step in
-    let drew = grows_drew (basis g.C.Cell.tells g.C.Cell.state g.O.Origin.offers c.args.store.now) (view c.look-looked.new.pass) (view c.draw.new.pass) c.in-Ok.version c.in-Ok.ensures.ok in
-    let looked = grows_step (basis g.C.Cell.tells g.C.Cell.state g.O.Origin.offers c.args.store.now) (view c.args.pass.now) (view c.look-looked.new.pass) (Look c.args.anchor) (word_number c.look-looked.result) looks in
-    let took = grows_step (basis g.C.Cell.tells g.C.Cell.state g.O.Origin.offers c.args.store.now) (view c.draw.new.pass) (view c.take.new.pass) (Take c.args.tab c.args.anchor c.in-Ok.version) (word_number c.in-Err-take.found) misses in
+    let misses = subst (λ n. Steps (basis g.C.Cell.tells g.C.Cell.state g.O.AnyOrigin.offers c.args.store.now) (view c.draw.new.pass) (Take c.args.tab c.args.anchor c.in-Ok.version) n (view c.take.new.pass)) (sym lost.0.answers) lost.0.step in
+    let drew = grows_drew (basis g.C.Cell.tells g.C.Cell.state g.O.AnyOrigin.offers c.args.store.now) (view c.look-looked.new.pass) (view c.draw.new.pass) c.in-Ok.version c.in-Ok.ensures.ok in
+    let looked = grows_step (basis g.C.Cell.tells g.C.Cell.state g.O.AnyOrigin.offers c.args.store.now) (view c.args.pass.now) (view c.look-looked.new.pass) (Look c.args.anchor) (word_number c.look-looked.result) looks in
+    let took = grows_step (basis g.C.Cell.tells g.C.Cell.state g.O.AnyOrigin.offers c.args.store.now) (view c.draw.new.pass) (view c.take.new.pass) (Take c.args.tab c.args.anchor c.in-Ok.version) (word_number c.in-Err-take.found) misses in
     let found = c.in-Err-take.ensures.fresh in (
       inr record {
         seen = view c.look-looked.new.pass;
@@ -57,7 +57,7 @@ returns-in-Err-take-clause-err g c = let looks = subst (λ n. Steps (basis g.C.C
             (grows_on (view c.look-looked.new.pass) (view c.draw.new.pass) (view c.take.new.pass) drew took);
         found_is = fresh_grows c.args.anchor (epoch_number c.in-Err-take.found.epoch) (view c.args.pass.now) (view c.draw.new.pass) (view c.take.new.pass) (view c.take.new.pass) (grows_on (view c.args.pass.now) (view c.look-looked.new.pass) (view c.draw.new.pass) looked drew) found
             (grows_same (view c.take.new.pass) (view c.take.new.pass) Rattle.std.proofs.Common.refl);
-        order = let a = looked_seen (basis g.C.Cell.tells g.C.Cell.state g.O.Origin.offers c.args.store.now) (view c.args.pass.now) (view c.look-looked.new.pass) c.args.anchor (word_number c.look-looked.result) looks in
+        order = let a = looked_seen (basis g.C.Cell.tells g.C.Cell.state g.O.AnyOrigin.offers c.args.store.now) (view c.args.pass.now) (view c.look-looked.new.pass) c.args.anchor (word_number c.look-looked.result) looks in
             let b = seen_grows c.args.anchor (view c.look-looked.new.pass) (view c.draw.new.pass) drew in
             let n = epoch_of-word_number c.look-looked.result c.look-looked.ensures.in_range.readers in let d = found.above in omega (arith, a, b, n, d);
       },

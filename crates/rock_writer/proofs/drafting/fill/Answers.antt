@@ -19,7 +19,7 @@ put-requires-clause-room g c =
     let n = c.min-count.result in
     let bytes = c.args.bytes.now in
     let draft = c.draft-draft in
-    let long = buffer_long g.C.Cell.tells g.C.Cell.state g.O.Origin.offers c.args.store.now c.args.pass.now t c.requires.below c.requires.own in
+    let long = buffer_long g.C.Cell.tells g.C.Cell.state g.O.AnyOrigin.offers c.args.store.now c.args.pass.now t c.requires.below c.requires.own in
     let count : n ≡ min (length bytes) (room_of slot - draft.result.held) = omega (arith, c.min-count.ensures, c.slot_size.ensures) in
     has_room ds t draft.result draft.ensures slot n bytes count c.requires.slot c.requires.within long
 
@@ -34,8 +34,8 @@ returns-clause-filled g c e place least d continues =
     let buffer = buffer_at p.desks t in
     let draft = c.draft-draft in
     let slot = c.args.store.now.table.shared.key.slot in
-    let ground = basis g.C.Cell.tells g.C.Cell.state g.O.Origin.offers c.args.store.now in
-    let long = buffer_long g.C.Cell.tells g.C.Cell.state g.O.Origin.offers c.args.store.now p t c.requires.below c.requires.own in
+    let ground = basis g.C.Cell.tells g.C.Cell.state g.O.AnyOrigin.offers c.args.store.now in
+    let long = buffer_long g.C.Cell.tells g.C.Cell.state g.O.AnyOrigin.offers c.args.store.now p t c.requires.below c.requires.own in
     let url = url_in ground e in
     let count : n ≡ min (length bytes) (room_of slot - draft.result.held) = omega (arith, c.min-count.ensures, c.slot_size.ensures) in
     let after = record draft.result { held = draft.result.held + n } in
@@ -67,4 +67,4 @@ returns-clause-own g c =
     let n = c.min-count.result in
     let lent = c.lending_keeps_passes.ensures s p t (put_at (HEADER_SIZE + draft.held) (buffer_at p.desks t) (take n c.args.bytes.now)) c.requires.own in
     c.drafts_keep_passes.ensures s t (record draft { held = draft.held + n }) c.put.new.pass c.set_draft.new.self
-    (subst (λ (x : Pass g.row.C.Denot). IsOf g.C.Cell.tells g.C.Cell.state g.O.Origin.offers s x) (sym c.put.ensures) lent) c.set_draft.ensures
+    (subst (λ (x : Pass g.row.C.Denot). IsOf g.C.Cell.tells g.C.Cell.state g.O.AnyOrigin.offers s x) (sym c.put.ensures) lent) c.set_draft.ensures

@@ -11,7 +11,7 @@ use Rattle.rock_writer.proofs.drafting.start.Goals as goal
 
 pub put_meta-held-requires-clause-room : goal.put_meta-held-requires-clause-room
 put_meta-held-requires-clause-room g c =
-    let long = buffer_long g.C.Cell.tells g.C.Cell.state g.O.Origin.offers c.args.store.now c.args.pass.now c.args.tab c.requires.below c.requires.own in
+    let long = buffer_long g.C.Cell.tells g.C.Cell.state g.O.AnyOrigin.offers c.args.store.now c.args.pass.now c.args.tab c.requires.below c.requires.own in
     omega (arith, c.requires.room, long)
 
 pub returns-clause-started : goal.returns-clause-started
@@ -20,7 +20,7 @@ returns-clause-started g c e begun durable =
     let r = c.put_meta-held.new.pass in
     let q = c.set_draft.new.self in
     let t = c.args.tab in
-    let ground = basis g.C.Cell.tells g.C.Cell.state g.O.Origin.offers c.args.store.now in
+    let ground = basis g.C.Cell.tells g.C.Cell.state g.O.AnyOrigin.offers c.args.store.now in
     let url = url_in ground e in
     let size = c.put_meta-held.ensures.size in
     let put = c.put_meta-held.ensures.put in
@@ -49,4 +49,4 @@ returns-clause-own g c =
     let s = c.args.store.now in
     let put = c.put_meta-held.ensures.put in
     c.drafts_keep_passes.ensures s c.args.tab _ c.put_meta-held.new.pass c.set_draft.new.self
-    (subst (λ (x : Pass g.row.C.Denot). IsOf g.C.Cell.tells g.C.Cell.state g.O.Origin.offers s x) (sym put.1) (c.lending_keeps_passes.ensures s c.args.pass.now c.args.tab put.0 c.requires.own)) c.set_draft.ensures
+    (subst (λ (x : Pass g.row.C.Denot). IsOf g.C.Cell.tells g.C.Cell.state g.O.AnyOrigin.offers s x) (sym put.1) (c.lending_keeps_passes.ensures s c.args.pass.now c.args.tab put.0 c.requires.own)) c.set_draft.ensures

@@ -7,17 +7,17 @@ use Rattle.store_rule.proofs.Quieting.{quiet_then}
 use Rattle.rock_writer.proofs.halting.halt.Goals as goal
 
 pub advance-requires : goal.advance-requires
-advance-requires g c = may_halt g.C.Cell.tells g.C.Cell.state g.O.Origin.offers c.args.store.now c.args.pass.now c.args.tab c.requires c.give_unlinked.new.pass c.give_unlinked.ensures.others.own c.give_unlinked.ensures.gave
+advance-requires g c = may_halt g.C.Cell.tells g.C.Cell.state g.O.AnyOrigin.offers c.args.store.now c.args.pass.now c.args.tab c.requires c.give_unlinked.new.pass c.give_unlinked.ensures.others.own c.give_unlinked.ensures.gave
 
 pub part-requires : goal.part-requires
-part-requires g c = let now = after g.C.Cell.tells g.C.Cell.state g.O.Origin.offers c.args.store.now c.args.pass.now c.args.tab c.requires c.give_unlinked.new.pass c.give_unlinked.ensures.others.own c.give_unlinked.ensures.gave in
-    may_part g.C.Cell.tells g.C.Cell.state g.O.Origin.offers c.args.store.now c.give_unlinked.new.pass c.advance.new.pass c.args.tab _ Stage.Halted
-    (last g.C.Cell.tells g.C.Cell.state g.O.Origin.offers c.args.store.now c.args.pass.now c.args.tab c.requires c.give_unlinked.new.pass c.give_unlinked.ensures.others.own c.give_unlinked.ensures.gave)
+part-requires g c = let now = after g.C.Cell.tells g.C.Cell.state g.O.AnyOrigin.offers c.args.store.now c.args.pass.now c.args.tab c.requires c.give_unlinked.new.pass c.give_unlinked.ensures.others.own c.give_unlinked.ensures.gave in
+    may_part g.C.Cell.tells g.C.Cell.state g.O.AnyOrigin.offers c.args.store.now c.give_unlinked.new.pass c.advance.new.pass c.args.tab _ Stage.Halted
+    (last g.C.Cell.tells g.C.Cell.state g.O.AnyOrigin.offers c.args.store.now c.args.pass.now c.args.tab c.requires c.give_unlinked.new.pass c.give_unlinked.ensures.others.own c.give_unlinked.ensures.gave)
     c.give_unlinked.ensures.others.own c.requires.below now.1 now.0 (λ n. refl) c.advance.ensures.made
 
 pub returns-clause-others : goal.returns-clause-others
-returns-clause-others g c = halting_on g.C.Cell.tells g.C.Cell.state g.O.Origin.offers c.args.store.now c.args.tab c.args.pass.now c.advance.new.pass c.part.new.pass
-    (halting_of g.C.Cell.tells g.C.Cell.state g.O.Origin.offers c.args.store.now c.args.tab c.args.pass.now c.advance.new.pass (follows_on g.C.Cell.tells g.C.Cell.state g.O.Origin.offers c.args.store.now c.args.tab c.args.pass.now c.give_unlinked.new.pass c.advance.new.pass c.give_unlinked.ensures.others c.advance.ensures.others))
+returns-clause-others g c = halting_on g.C.Cell.tells g.C.Cell.state g.O.AnyOrigin.offers c.args.store.now c.args.tab c.args.pass.now c.advance.new.pass c.part.new.pass
+    (halting_of g.C.Cell.tells g.C.Cell.state g.O.AnyOrigin.offers c.args.store.now c.args.tab c.args.pass.now c.advance.new.pass (follows_on g.C.Cell.tells g.C.Cell.state g.O.AnyOrigin.offers c.args.store.now c.args.tab c.args.pass.now c.give_unlinked.new.pass c.advance.new.pass c.give_unlinked.ensures.others c.advance.ensures.others))
     c.part.ensures.others
 
 pub returns-clause-quiet : goal.returns-clause-quiet

@@ -10,7 +10,7 @@ decreases-loop-front g l = rest_length (tab_at (view l.pass) inner)
 
 abbrev pub invariant-loop-front : goal.invariant-loop-front
 invariant-loop-front g l = record {
-  left : RestLeft (basis g.C.Cell.tells g.C.Cell.state g.O.Origin.offers l.store) (view l.fn.pass) l.front (view l.pass);
-  follows : Follows g.C.Cell.tells g.C.Cell.state g.O.Origin.offers l.store inner l.fn.pass l.pass;
+  left : RestLeft (basis g.C.Cell.tells g.C.Cell.state g.O.AnyOrigin.offers l.store) (view l.fn.pass) l.front (view l.pass);
+  follows : Follows g.C.Cell.tells g.C.Cell.state g.O.AnyOrigin.offers l.store inner l.fn.pass l.pass;
   quiet : Quiet (view l.fn.pass) (view l.pass);
 }

@@ -9,7 +9,7 @@ use Rattle.slice_chain.proofs.victims.evict_one.Given as goal
 abbrev pub invariant-loop-steps : goal.invariant-loop-steps
 invariant-loop-steps g l = record {
   to : l.steps ≤ l.anchors;
-  passed : PassedSome (basis g.C.Cell.tells g.C.Cell.state g.O.Origin.offers l.store) l.hand (view l.fn.pass) l.steps (view l.pass);
-  follows : Follows g.C.Cell.tells g.C.Cell.state g.O.Origin.offers l.store inner l.fn.pass l.pass;
+  passed : PassedSome (basis g.C.Cell.tells g.C.Cell.state g.O.AnyOrigin.offers l.store) l.hand (view l.fn.pass) l.steps (view l.pass);
+  follows : Follows g.C.Cell.tells g.C.Cell.state g.O.AnyOrigin.offers l.store inner l.fn.pass l.pass;
   quiet : Quiet (view l.fn.pass) (view l.pass);
 }

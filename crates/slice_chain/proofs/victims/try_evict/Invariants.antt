@@ -13,8 +13,8 @@ decreases-loop-word g l = 2 * (281474976710656 - epoch_number l.word.epoch) + co
 
 abbrev pub invariant-loop-word : goal.invariant-loop-word
 invariant-loop-word g l = record {
-  looks : LooksAt (basis g.C.Cell.tells g.C.Cell.state g.O.Origin.offers l.store) l.anchor (view l.fn.pass) (word_number l.word) (view l.pass);
+  looks : LooksAt (basis g.C.Cell.tells g.C.Cell.state g.O.AnyOrigin.offers l.store) l.anchor (view l.fn.pass) (word_number l.word) (view l.pass);
   range : IsInRange l.word;
-  follows : Follows g.C.Cell.tells g.C.Cell.state g.O.Origin.offers l.store inner l.fn.pass l.pass;
+  follows : Follows g.C.Cell.tells g.C.Cell.state g.O.AnyOrigin.offers l.store inner l.fn.pass l.pass;
   quiet : Quiet (view l.fn.pass) (view l.pass);
 }
