@@ -1,5 +1,5 @@
 -- A tab that left an entry for its last user may have it freed.
-use Rattle.std.proofs.Common.{Bool, List, Option, unwrap_or, ap, arith, eq-eqb, get_or, refl, subst, sym, true, ◌-◌, ◌<◌, ◌≡◌, ◌≤◌, ◌⊎◌, ◌∙◌, ⊎_elim, inl, inr, ℕ}
+use Rattle.std.proofs.Common.{Bool, List, Option, unwrap_or, ap, arith, eq-eqb, get_or, refl, subst, sym, true, ◌-◌, ◌<◌, ◌≡◌, ◌≢◌, ◌≤◌, ◌⊎◌, ◌∙◌, ⊎_elim, inl, inr, ℕ}
 use Rattle.std.proofs.lemmas.List.{get_or-set_other, get_or-set_same}
 use mathlib.Core.Logic.{dite}
 use native.Mathlib.Decide.{ℕ_discrete}
@@ -21,7 +21,8 @@ use Rattle.store_rule.proofs.Moves.{not_free, tab_inside}
 use Rattle.store_rule.proofs.Passing.{pass_of}
 use Rattle.store_rule.specs.Calls.{Follows}
 use Rattle.store_rule.proofs.Following.{made_follows}
-use Rattle.rw_anchor.specs.Calls.{MayGiveUp}
+use Rattle.rw_anchor.specs.Calls.{GivenUp, LeftLast, MayGiveUp}
+use Rattle.rw_anchor.specs.declared.Left.{Left}
 
 module _ {X : Type 0} {says : Bool} (g : GroundOf says X) (v w : View X) (t n : ℕ) (st : Steps g v (Leave t) n w) (pass : IsPass v) (le : t ≤ inner) where
   abbrev a : ℕ
@@ -62,3 +63,28 @@ module _ {C O : Type 0} (tells : Bool) (state : C → CellState) {says : Bool} (
         left = ap (λ (z : List ℕ). get_or z t 0) made.left ∙ get_or-set_same p.left t told 0 (let n = p.nine_left in omega arith)
             ∙ made.answers ∙ sym (last_is g (view p) (view q) t made.found made.step (pass_of p) le) ∙ ap (λ (z : ℕ). last_find z (view q).trail) (sym at);
       }
+
+  -- it was found as the tab left it, or not
+  pub gave_up : (t a old : ℕ) (p q : Pass C) → a ≡ anchor_of (tab_at (view p) t) → old ≡ last_find a (view p).trail → Made tells state offers s p (Evict t a) old q
+      → GivenUp (basis tells state offers s) (view p) t Left.MustFree (view q)
+  gave_up t a old p q is last made = record {
+    found = made.found;
+    evict = subst (λ (z : ℕ). Steps (basis tells state offers s) (view p) (Evict t z) made.found (view q)) is made.step;
+    won = ((λ e. sym made.answers ∙ last ∙ ap (λ (z : ℕ). last_find z (view p).trail) is), (λ e. refl));
+  }
+
+  pub was_late : (t a old told : ℕ) (p q : Pass C) → a ≡ anchor_of (tab_at (view p) t) → old ≡ last_find a (view p).trail → told ≢ old → Made tells state offers s p (Evict t a) told q
+      → GivenUp (basis tells state offers s) (view p) t Left.Done (view q)
+  was_late t a old told p q is last other made = record {
+    found = made.found;
+    evict = subst (λ (z : ℕ). Steps (basis tells state offers s) (view p) (Evict t z) made.found (view q)) is made.step;
+    won = ((λ e. absurd (not_freed e)), (λ e. absurd (other (made.answers ∙ e ∙ ap (λ (z : ℕ). last_find z (view p).trail) (sym is) ∙ sym last))));
+  }
+    where
+      not_freed : Left.Done ≡ Left.MustFree → ⊥
+      not_freed e = cc
+
+  -- a tab was the last user of an entry that is left over, and left it
+  pub left_last : (t told : ℕ) (left : Left) (p q : Pass C) (w : View (List ℕ)) → Made tells state offers s p (Leave t) told q → is_left_over told ≡ true
+      → GivenUp (basis tells state offers s) (view q) t left w → LeftLast (basis tells state offers s) (view p) t left w
+  left_last t told left p q w made over gives_up = record { found = made.found; middle = view q; leave = made.step; over = ap is_left_over (sym made.answers) ∙ over; gives_up = gives_up }

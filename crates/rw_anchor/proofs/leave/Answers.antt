@@ -1,6 +1,6 @@
-use Rattle.std.proofs.Common.{Option, ap, sym, unwrap_or, ◌∙◌, ℕ}
+use Rattle.std.proofs.Common.{Option, ap, inr, sym, unwrap_or, ◌∙◌, ℕ}
 use Rattle.store_rule.proofs.Following.{follows_on, made_follows}
-use Rattle.rw_anchor.proofs.LastTabs.{may_give_up}
+use Rattle.rw_anchor.proofs.LastTabs.{left_last, may_give_up}
 use Rattle.store_rule.proofs.Quieting.{quiet_step, quiet_then}
 use Rattle.rw_anchor.proofs.leave.Goals as goal
 
@@ -17,3 +17,7 @@ returns-clause-quiet g c = quiet_then (quiet_step c.exit-word.ensures.made.step 
 
 pub returns-then-not-is_left_over-clause-quiet : goal.returns-then-not-is_left_over-clause-quiet
 returns-then-not-is_left_over-clause-quiet g c = quiet_step c.exit-word.ensures.made.step tt
+
+pub returns-clause-left : goal.returns-clause-left
+returns-clause-left g c = inr (sym c.is_last.ensures ∙ c.if-is_last.false, inr (left_last g.C.Cell.tells g.C.Cell.state g.O.AnyOrigin.offers c.args.store.now c.args.tab _ c.give_up-2.result c.args.pass.now c.exit-word.new.pass _
+    c.exit-word.ensures.made (sym c.is_left_over.ensures.number ∙ c.if-not-is_left_over.false) c.give_up-2.ensures.gives_up))
