@@ -1,4 +1,4 @@
-use Rattle.std.proofs.Common.{ap, arith, inr, subst, sym, ◌≤◌}
+use Rattle.std.proofs.Common.{ap, arith, inl, inr, refl, subst, sym, ◌≤◌}
 use Rattle.lock_word.specs.Words.{epoch_number, word_number}
 use Rattle.lock_word.proofs.Parts.{epoch_of-word_number}
 use Rattle.core_model.specs.declared.moves.Move.TheVariants.{Look, Take}
@@ -71,3 +71,18 @@ returns-in-Err-take-clause-quiet g c = quiet_then (quiet_then c.look-looked.ensu
 
 pub returns-in-Err-clause-quiet : goal.returns-in-Err-clause-quiet
 returns-in-Err-clause-quiet g c = quiet_then c.look-looked.ensures.quiet c.draw.ensures.quiet
+
+pub returns-then-not-is_open-clause-err : goal.returns-then-not-is_open-clause-err
+returns-then-not-is_open-clause-err g c = let looks = subst (λ n. Steps (basis g.C.Cell.tells g.C.Cell.state g.O.AnyOrigin.offers c.args.store.now) (view c.args.pass.now) (Look c.args.anchor) n (view c.look-looked.new.pass)) (sym c.look-looked.ensures.made.answers) c.look-looked.ensures.made.step in (
+  inl record { looks = looks; used = c.is_open.ensures.used c.if-not-is_open.true; same = refl },
+  record { looked_is = c.look-looked.ensures.fresh; found_is = c.look-looked.ensures.fresh; order = omega arith },
+)
+
+pub returns-in-Err-clause-err : goal.returns-in-Err-clause-err
+returns-in-Err-clause-err g c = let looks = subst (λ n. Steps (basis g.C.Cell.tells g.C.Cell.state g.O.AnyOrigin.offers c.args.store.now) (view c.args.pass.now) (Look c.args.anchor) n (view c.look-looked.new.pass)) (sym c.look-looked.ensures.made.answers) c.look-looked.ensures.made.step in record {
+  n = word_number c.look-looked.result;
+  seen = view c.look-looked.new.pass;
+  looks = looks;
+  open_to = c.is_open.ensures.free c.if-not-is_open.false;
+  spent = c.in-Err.ensures.err;
+}

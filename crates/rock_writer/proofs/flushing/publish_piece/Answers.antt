@@ -1,9 +1,10 @@
-use Rattle.std.proofs.Common.{ap, refl, subst, sym, true, ℕ, ◌<◌, ◌∙◌}
+use Rattle.std.proofs.Common.{ap, false, refl, subst, sym, true, ℕ, ◌<◌, ◌∙◌}
 use Rattle.core_model.specs.Tabs.{tab_at}
 use Rattle.tab_states.specs.Desks.{buffer_at}
 use Rattle.store_rule.specs.Passes.{basis, view}
 use Rattle.tab_states.specs.declared.tabs.WritingAt.{WritingAt}
-use Rattle.slice_chain.specs.Links.{MayPublishSlot}
+use Rattle.tab_states.specs.declared.desks.Draft.{Draft}
+use Rattle.slice_chain.specs.Links.{MayPublishSlot, Published}
 use Rattle.slice_chain.specs.Writes.{WroteSlot}
 use Rattle.rock_writer.proofs.Publishing.{first_fits, may_publish, may_write, next_fits, same_view, sealed_is, w}
 use Rattle.rock_writer.proofs.Following.{when_ok, writing_desk, writing_on, writing_one}
@@ -52,3 +53,17 @@ returns-in-Err-clause-quiet g c = quiet_then (quiet_same _ _ (ap (λ z. (the_vie
 
 pub returns-clause-quiet : goal.returns-clause-quiet
 returns-clause-quiet g c = quiet_then (quiet_then (quiet_same _ _ (ap (λ z. (the_view z.me.0).trail) c.seal.ensures.kept.seat)) c.write_slot.ensures.quiet) c.publish.ensures.quiet
+
+pub returns-in-Err-clause-err : goal.returns-in-Err-clause-err
+returns-in-Err-clause-err g c = let b = basis g.C.Cell.tells g.C.Cell.state g.O.AnyOrigin.offers c.args.store.now in
+    subst (λ (d : Draft). WroteSlot b c.args.tab (view c.args.pass.now) d.is_durable false (view c.write_slot.new.pass)) c.draft-draft.ensures
+    (subst (λ v. WroteSlot b c.args.tab v c.draft-draft.result.is_durable false (view c.write_slot.new.pass)) (same_view c.args.tab c.args.pass.now c.seal.new.pass c.seal.ensures.kept) c.in-Err.ensures.err)
+
+pub returns-clause-ok : goal.returns-clause-ok
+returns-clause-ok g c = let b = basis g.C.Cell.tells g.C.Cell.state g.O.AnyOrigin.offers c.args.store.now in record {
+  written = view c.write_slot.new.pass;
+  wrote = subst (λ (d : Draft). WroteSlot b c.args.tab (view c.args.pass.now) d.is_durable true (view c.write_slot.new.pass)) c.draft-draft.ensures
+      (subst (λ v. WroteSlot b c.args.tab v c.draft-draft.result.is_durable true (view c.write_slot.new.pass)) (same_view c.args.tab c.args.pass.now c.seal.new.pass c.seal.ensures.kept)
+      (when_ok c.write_slot.result c.in_default-write_slot.field-0 c.in_default-write_slot.is c.write_slot.ensures.ok));
+  publishes = subst (λ n. Published b c.args.tab c.args.slot n (view c.write_slot.new.pass) (view c.publish.new.pass)) c.slot_behind.ensures c.publish.ensures.published;
+}
