@@ -27,7 +27,7 @@ same_front meta body more start held taken e inside = sym (drop-take start held 
     long = length-take-le taken body inside
 
     other : take (start + held) (meta ++ (take taken body ++ more)) ≡ meta ++ take taken body
-    other = fronts (take taken body ++ more) ∙ ap (λ (xs : List ℕ). meta ++ xs) (take-append-le taken (take taken body) more (omega arith) ∙ take-take taken taken body (omega arith))
+    other = fronts (take taken body ++ more) ∙ ap (λ (xs : List ℕ). meta ++ xs) (take-append-le taken (take taken body) more (omega (arith, long)) ∙ take-take taken taken body (omega arith))
 
 drafts_with : (b : Bool) (g : GroundOf b (List ℕ)) (fewest : ℕ) (desks : List Desk) (t : ℕ) (e : Entry) (more : List ℕ) (place : ℕ) → b ≡ false
     → length (meta_bytes (key_of (url_in g e)) (url_in g e)) ≡ 32 + length (url_in g e) → Drafts g fewest desks t e place → Drafts g fewest desks t (with_more e more) place

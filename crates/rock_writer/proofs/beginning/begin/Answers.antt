@@ -2,7 +2,7 @@ use Rattle.std.proofs.Common.{ap, refl, subst, sym, ◌∙◌}
 use Rattle.store_key.specs.Key.{key_of}
 use Rattle.slice_chain.specs.Names.{MayNameEntry, Named}
 use Rattle.store_rule.specs.Passes.{basis, view}
-use Rattle.rock_writer.specs.Beginning.{TookAnchor}
+use Rattle.rock_writer.specs.Beginning.{NotTaken, TookAnchor}
 use Rattle.rock_writer.proofs.Offered.{named_by}
 use Rattle.rock_writer.proofs.Begun.{cleared, may_clear, may_name, room, writes_begun}
 use Rattle.rock_writer.proofs.Durable.{begun_so_far}
@@ -66,3 +66,7 @@ returns-clause-durable g c = begun_so_far g.C.Cell.tells g.C.Cell.state g.O.AnyO
 
 pub returns-clause-quiet : goal.returns-clause-quiet
 returns-clause-quiet g c = quiet_then (quiet_then c.take_anchor.ensures.quiet c.clear.ensures.quiet) (quiet_then c.name_entry.ensures.quiet (quiet_same _ _ (ap (λ z. (the_view z.me.0).trail) c.start.ensures.kept.seat)))
+
+pub returns-in-Err-clause-err : goal.returns-in-Err-clause-err
+returns-in-Err-clause-err g c = let at = c.anchor_of-anchor.ensures.value ∙ ap (λ k. Rattle.store_key.specs.Anchor.anchor_of k c.anchors.result) c.key_of-key.ensures ∙ ap (Rattle.store_key.specs.Anchor.anchor_of (key_of c.args.url.now)) c.anchors.ensures.value in
+    subst (λ a. NotTaken (basis g.C.Cell.tells g.C.Cell.state g.O.AnyOrigin.offers c.args.store.now) c.args.tab a (view c.args.pass.now) c.in-Err.fault (view c.take_anchor.new.pass)) at c.in-Err.ensures.err
