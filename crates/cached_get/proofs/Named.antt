@@ -3,7 +3,7 @@ use native.Mathlib.Decide.{ℕ_discrete}
 use mathlib.Core.Logic.{dite}
 use lib.ListN.{get_elem?}
 use mathlib.Core.Option.{some}
-use Rattle.std.proofs.Common.{Bool, Contains, List, [], ap, arith, inl, inr, length, subst, sym, ◌-◌, ◌<◌, ◌≡◌, ◌≤◌, ◌⊎◌, ◌∙◌, ℕ}
+use Rattle.std.proofs.Common.{Bool, Contains, List, [], ap, arith, inl, inr, length, refl, suc, subst, sym, ◌++◌, ◌∷◌, ◌-◌, ◌<◌, ◌≡◌, ◌≤◌, ◌⊎◌, ◌∙◌, ℕ}
 use Rattle.std.specs.Prelude.{◌≢◌}
 use Rattle.lock_word.specs.Words.{version_of}
 use Rattle.rock_disk.specs.Cell.{CellState}
@@ -18,12 +18,16 @@ use Rattle.core_model.specs.declared.tab.Reader.{Reader}
 use Rattle.core_model.specs.declared.tab.Tab.TheVariants.{Reading}
 use Rattle.core_model.specs.declared.view.Sight.TheVariants.{Named}
 use Rattle.core_model.specs.declared.view.View.{View}
+use Rattle.core_model.specs.SlotMoves.{loads}
+use Rattle.core_model.specs.declared.moves.Move.TheVariants.{LoadSide}
+use Rattle.core_model.specs.declared.tab.Tab.{Tab}
+use Rattle.core_model.specs.declared.view.Sight.{Sight}
 use Rattle.core_model.proofs.Tabs.{tab_there}
 use Rattle.store_rule.specs.declared.store.Pass.{Pass}
 use Rattle.store_rule.specs.declared.store.Store.{Store}
 use Rattle.store_rule.specs.Ground.{Ground, Offers, offering_of}
 use Rattle.store_rule.specs.Passes.{basis, view}
-use Rattle.store_rule.specs.Told.{Stands}
+use Rattle.store_rule.specs.Told.{Stands, Steps}
 use Rattle.store_rule.proofs.Passing.{pass_of}
 use Rattle.rock_reader.specs.Reading.{ReadsAs, Standing}
 
@@ -33,10 +37,13 @@ pub record IsOldOffer (g : Ground (List ℕ)) (a offer : ℕ) : Type 0 where
   pub first : offer ≡ first_of (g.chain a)
   pub some_slots : g.chain a ≢ []
 
+behind : {X : Type 0} (x y : X) (ys : List X) → Contains ys y → Contains (x ∷ ys) y
+behind x y ys (i, lt, e) = (suc i, omega arith, e)
+
 not_empty : (xs : List ℕ) → 0 < length xs → xs ≢ []
 not_empty xs more none = absurd (let l = ap length none in omega arith)
 
-module _ {X : Type 0} (g : Ground (List ℕ)) where
+module _ (g : Ground (List ℕ)) where
   module _ (t : ℕ) (v : View (List ℕ)) (stands : Stands g v) (nine : length v.tabs ≡ 9) (below : t < inner) (r : Reader (List ℕ)) (is : tab_at v t ≡ Reading r) where
     there : get_elem? v.tabs t ≡ some (Reading r)
     there = tab_there v t (Reading r) (let p = nine in let b = below in omega arith) is
@@ -49,6 +56,14 @@ module _ {X : Type 0} (g : Ground (List ℕ)) where
 
     offer_is : (n : ℕ) → Contains v.seen (Named r.anchor r.version Offer n) → side_word g.setting stands.state Offer r.anchor ≡ n
     offer_is n seen = (stands.rule.sound.anchors.seen.named stands.index v stands.at r.anchor r.version Offer n seen at_anchor.1.version_is).0
+
+    -- what the tab looks up is what the pass had seen
+    pub named_again : (u : View (List ℕ)) (n k : ℕ) (was : tab_at u t ≡ Reading r) → Steps g u (LoadSide t Offer) n v → Contains u.seen (Named r.anchor r.version Offer k) → k ≡ n
+    named_again u n k was step seen =
+        let grown : v.seen ≡ Named r.anchor r.version Offer n ∷ u.seen = ap View.seen step.leaves ∙ ap (λ (x : Tab (List ℕ)). loads x Offer n ++ u.seen) was in
+        let new : Contains v.seen (Named r.anchor r.version Offer n) = subst (λ (xs : List Sight). Contains xs (Named r.anchor r.version Offer n)) (sym grown) (0, omega arith, refl) in
+        let old : Contains v.seen (Named r.anchor r.version Offer k) = subst (λ (xs : List Sight). Contains xs (Named r.anchor r.version Offer k)) (sym grown) (behind _ _ _ seen) in
+        sym (offer_is k old) ∙ offer_is n new
 
     pub named : (n : ℕ) → Contains v.seen (Named r.anchor r.version Offer n) → (r.anchor < g.setting.anchors) × (IsOldOffer g r.anchor n ⊎ (g.setting.slots ≤ n))
     named n seen = (at_anchor.0, dite (ℕ_discrete (r.version - opening_counter g.setting) 0)
@@ -69,4 +84,4 @@ module _ {C O : Type 0} (tells : Bool) (state : C → CellState) (offers : O →
           subst (λ (n : ℕ). Contains (view p).seen (Named reads.reader.anchor n Offer e.offer)) (sym reads.version_is)
           (subst (λ (n : ℕ). Contains (view p).seen (Named n e.version Offer e.offer)) (sym reads.anchor_is) reads.offer_seen) in
       subst (λ (a : ℕ). (a < g0.setting.anchors) × (IsOldOffer g0 a e.offer ⊎ (g0.setting.slots ≤ e.offer))) reads.anchor_is
-      (named {X = List ℕ} g0 t (view p) reads.own.stands (pass_of p) reads.below reads.reader reads.is e.offer seen)
+      (named g0 t (view p) reads.own.stands (pass_of p) reads.below reads.reader reads.is e.offer seen)

@@ -1,10 +1,8 @@
 -- A store that holds the entries of its file has copies of what it is offered and had.
-use native.Mathlib.Decide.{ℕ_discrete}
-use Rattle.std.proofs.Common.{Bool, IsTrue, List, [], ◌∷◌, ap, arith, inl, inr, refl, subst, suc, sym, zero, true, false, cond, ◌-◌, ◌<◌, ◌≡◌, ◌≤◌, ◌⊎◌, ◌∙◌, ℕ}
-use Rattle.std.specs.Prelude.{None, nat_lt, ◌≢◌, ◌&&◌}
-use Rattle.std.proofs.Math.Dec.{eqb}
-use Rattle.std.proofs.lemmas.Bool.{lt-ltb}
-use Rattle.std.proofs.lemmas.Bool.Decides.{eqb_tells}
+use Rattle.std.proofs.Common.{Bool, IsTrue, List, [], ◌∷◌, ap, arith, inl, inr, refl, subst, suc, sym, zero, true, false, ◌-◌, ◌<◌, ◌≡◌, ◌≤◌, ◌⊎◌, ◌∙◌, ℕ}
+use Rattle.std.specs.Prelude.{None, ◌≢◌, ◌&&◌}
+use Rattle.std.proofs.Math.Dec.{eqb, leb}
+use Rattle.std.proofs.lemmas.Bool.Decides.{eqb_tells, leb_tells}
 use Rattle.rebuild_model.specs.Entry.{Entry, IsComplete}
 use Rattle.core_model.specs.Chains.{first_of}
 use Rattle.store_rule.specs.Ground.{Ground, Offers, url_of}
@@ -27,6 +25,15 @@ nobody = record { first = 0; version = 0; key = []; url = []; chain = []; body =
 first_is : {x : ℕ} {xs ys : List ℕ} → ys ≡ x ∷ xs → first_of ys ≡ x
 first_is e = ap first_of e
 
+below_more : (k m : ℕ) → suc k ≤ m → k < m
+below_more k m le = omega arith
+
+before_more : (k m : ℕ) → suc k ≤ m → k ≤ m
+before_more k m le = omega arith
+
+all_of : (m : ℕ) → m ≤ m
+all_of m = omega arith
+
 module _ (g : Ground (List ℕ)) (holds : HoldsFile g) (n : ℕ) where
   pick : (x : ℕ) → ((eqb x n ≡ true) × (x ≡ n)) ⊎ ((eqb x n ≡ false) × (x ≢ n)) → (here rest : Entry) → Entry
   pick x (inl is) here rest = here
@@ -39,7 +46,7 @@ module _ (g : Ground (List ℕ)) (holds : HoldsFile g) (n : ℕ) where
   -- the entry of the opening that begins at this slot, among those of the first anchors, so many
   found_below : (k : ℕ) → k ≤ g.setting.anchors → Entry
   found_below zero le = nobody
-  found_below (suc k) le = at_chain k (omega arith) (g.chain k) refl (found_below k (omega arith))
+  found_below (suc k) le = at_chain k (below_more k g.setting.anchors le) (g.chain k) refl (found_below k (before_more k g.setting.anchors le))
 
 module _ (begins : OneBegins) (g : Ground (List ℕ)) (holds : HoldsFile g) (n a : ℕ) (e : Entry) (complete : IsComplete g.slot g.setting.contents e) (chain_is : e.chain ≡ g.chain a) (first : n ≡ first_of (g.chain a)) where
   begins_with : g.chain a ≡ e.first ∷ complete.chain.behind
@@ -60,41 +67,43 @@ module _ (begins : OneBegins) (g : Ground (List ℕ)) (holds : HoldsFile g) (n a
   some_at : (k : ℕ) → g.chain k ≡ [] → a ≡ k → ⊥
   some_at k is same = some_there begins_with (ap g.chain same ∙ is)
 
+  module _ (k : ℕ) (below : k < g.setting.anchors) (before : k ≤ g.setting.anchors) (earlier : a < k → found_below g holds n k before ≡ e) (within : a ≤ k) where
+    picked : (x : ℕ) (xs : List ℕ) (is : g.chain k ≡ x ∷ xs) → ((eqb a k ≡ true) × (a ≡ k)) ⊎ ((eqb a k ≡ false) × (a ≢ k)) → (d : ((eqb x n ≡ true) × (x ≡ n)) ⊎ ((eqb x n ≡ false) × (x ≢ n)))
+        → pick g holds n x d (holds.complete k below (some_there is)).0 (found_below g holds n k before) ≡ e
+    picked x xs is at (inl same) = same_entry k x xs is below (some_there is) same.1
+    picked x xs is (inl at) (inr ne) = absurd (ne.1 (first_at k x xs is at.1))
+    picked x xs is (inr off) (inr ne) = earlier (let o = off.1 in omega arith)
+
+    at_is : (chain : List ℕ) (is : g.chain k ≡ chain) → ((eqb a k ≡ true) × (a ≡ k)) ⊎ ((eqb a k ≡ false) × (a ≢ k)) → at_chain g holds n k below chain is (found_below g holds n k before) ≡ e
+    at_is [] is (inl at) = absurd (some_at k is at.1)
+    at_is [] is (inr off) = earlier (let o = off.1 in omega arith)
+    at_is (x ∷ xs) is at = picked x xs is at (eqb_tells x n)
+
   found_is : (k : ℕ) (le : k ≤ g.setting.anchors) → a < k → found_below g holds n k le ≡ e
   found_is zero le lt = absurd (omega arith)
-  found_is (suc k) le lt = by (g.chain k) refl (eqb_tells a k)
-    where
-      below : k < g.setting.anchors
-      below = omega arith
-
-      before : k ≤ g.setting.anchors
-      before = omega arith
-
-      picked : (x : ℕ) (xs : List ℕ) (is : g.chain k ≡ x ∷ xs) → ((eqb a k ≡ true) × (a ≡ k)) ⊎ ((eqb a k ≡ false) × (a ≢ k)) → (d : ((eqb x n ≡ true) × (x ≡ n)) ⊎ ((eqb x n ≡ false) × (x ≢ n)))
-          → pick g holds n x d (holds.complete k below (some_there is)).0 (found_below g holds n k before) ≡ e
-      picked x xs is at (inl same) = same_entry k x xs is below (some_there is) same.1
-      picked x xs is (inl at) (inr ne) = absurd (ne.1 (first_at k x xs is at.1))
-      picked x xs is (inr off) (inr ne) = found_is k before (let o = off.1 in omega arith)
-
-      by : (chain : List ℕ) (is : g.chain k ≡ chain) → ((eqb a k ≡ true) × (a ≡ k)) ⊎ ((eqb a k ≡ false) × (a ≢ k)) → at_chain g holds n k below chain is (found_below g holds n k before) ≡ e
-      by [] is (inl at) = absurd (some_at k is at.1)
-      by [] is (inr off) = found_is k before (let o = off.1 in omega arith)
-      by (x ∷ xs) is at = picked x xs is at (eqb_tells x n)
+  found_is (suc k) le lt = at_is k (below_more k g.setting.anchors le) (before_more k g.setting.anchors le) (found_is k (before_more k g.setting.anchors le)) (omega arith) (g.chain k) refl (eqb_tells a k)
 
 -- where an offer is below the slots, what the opening had, and else what the origin offers
-by_offer : (g : Ground (List ℕ)) → (old : ℕ → List ℕ) (new : ℕ → List ℕ) → ℕ → List ℕ
-by_offer g old new offer = cond (nat_lt offer g.setting.slots) (old offer) (new (offer - g.setting.slots))
+chosen : (slots offer : ℕ) → ((leb slots offer ≡ true) × (slots ≤ offer)) ⊎ ((leb slots offer ≡ false) × (offer < slots)) → (old new : List ℕ) → List ℕ
+chosen slots offer (inl le) old new = new
+chosen slots offer (inr lt) old new = old
+
+chosen_old : (slots offer : ℕ) (d : ((leb slots offer ≡ true) × (slots ≤ offer)) ⊎ ((leb slots offer ≡ false) × (offer < slots))) (old new : List ℕ) → offer < slots → chosen slots offer d old new ≡ old
+chosen_old slots offer (inl le) old new lt = absurd (let l = le.1 in omega arith)
+chosen_old slots offer (inr is) old new lt = refl
+
+chosen_new : (slots offer : ℕ) (d : ((leb slots offer ≡ true) × (slots ≤ offer)) ⊎ ((leb slots offer ≡ false) × (offer < slots))) (old new : List ℕ) → slots ≤ offer → chosen slots offer d old new ≡ new
+chosen_new slots offer (inl is) old new le = refl
+chosen_new slots offer (inr lt) old new le = absurd (let l = lt.1 in omega arith)
+
+abbrev by_offer : (g : Ground (List ℕ)) → (old : ℕ → List ℕ) (new : ℕ → List ℕ) → ℕ → List ℕ
+by_offer g old new offer = chosen g.setting.slots offer (leb_tells g.setting.slots offer) (old offer) (new (offer - g.setting.slots))
 
 by_old : (g : Ground (List ℕ)) (old new : ℕ → List ℕ) (offer : ℕ) → offer < g.setting.slots → by_offer g old new offer ≡ old offer
-unfolding by_offer
-by_old g old new offer lt = ap (λ (b : Bool). cond b (old offer) (new (offer - g.setting.slots))) (lt-ltb offer g.setting.slots lt)
+by_old g old new offer lt = chosen_old g.setting.slots offer (leb_tells g.setting.slots offer) (old offer) (new (offer - g.setting.slots)) lt
 
 by_new : (g : Ground (List ℕ)) (old new : ℕ → List ℕ) (offer : ℕ) → g.setting.slots ≤ offer → by_offer g old new offer ≡ new (offer - g.setting.slots)
-unfolding by_offer
-by_new g old new offer le = ap (λ (b : Bool). cond b (old offer) (new (offer - g.setting.slots))) (not_below offer g.setting.slots le)
-  where
-    not_below : (a b : ℕ) → b ≤ a → nat_lt a b ≡ false
-    not_below a b le = omega arith
+by_new g old new offer le = chosen_new g.setting.slots offer (leb_tells g.setting.slots offer) (old offer) (new (offer - g.setting.slots)) le
 
 module _ (tells : Bool) (g : Ground (List ℕ)) where
   made_of : (old_url old_body : ℕ → List ℕ) → Offers
@@ -124,6 +133,6 @@ module _ (tells : Bool) (g : Ground (List ℕ)) where
 pub copies_there : OneBegins → (tells : Bool) (g : Ground (List ℕ)) → (IsTrue tells → HoldsFile g) → Copies tells g
 unfolding AreOld
 copies_there begins false g holds = made false g (λ offer. []) (λ offer. []) (λ told. absurd (cc))
-copies_there begins true g holds = made true g (λ offer. (found_below g (holds refl) offer g.setting.anchors (omega arith)).url) (λ offer. (found_below g (holds refl) offer g.setting.anchors (omega arith)).body)
-    (λ told a offer url body there lt first was. let e = found_is begins g (holds refl) offer a was.entry was.complete was.chain_is first g.setting.anchors (omega arith) there in
+copies_there begins true g holds = made true g (λ offer. (found_below g (holds refl) offer g.setting.anchors (all_of g.setting.anchors)).url) (λ offer. (found_below g (holds refl) offer g.setting.anchors (all_of g.setting.anchors)).body)
+    (λ told a offer url body there lt first was. let e = found_is begins g (holds refl) offer a was.entry was.complete was.chain_is first g.setting.anchors (all_of g.setting.anchors) there in
     (ap Entry.url e ∙ was.url_is, ap Entry.body e ∙ was.body_is))

@@ -3,7 +3,6 @@ use Rattle.std.specs.Prelude.{Bool, IsTrue, List, None, [], length, ◌&&◌, �
 use Rattle.core_model.specs.Chains.{first_of}
 use Rattle.store_rule.specs.Ground.{Ground, Offers, url_of}
 use Rattle.rock_reader.specs.Responses.{HoldsFile, IsOpened}
-use Rattle.cached_get.specs.declared.copies.CopyOrigin.{CopyOrigin}
 
 module _ (tells : Bool) (g : Ground (List ℕ)) where
   -- These are copies of what a store with this ground has, each under the number that its offer has there.
@@ -22,10 +21,6 @@ module _ (tells : Bool) (g : Ground (List ℕ)) where
 
   abbrev pub Copies : Type 0
   Copies = (copies : Offers) × AreCopies copies
-
--- what an origin of copies offers
-abbrev pub copies_of : {C O : Type 0} → CopyOrigin C O → Offers
-copies_of origin = origin.copies.0
 
 -- A store in memory with the ground m keeps copies of what a store with the ground g has: its slots are as wide, it is offered such copies, and it
 -- began with no entry.

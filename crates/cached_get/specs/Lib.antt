@@ -2,4 +2,5 @@ pub mod Copies
 pub mod Copying
 pub mod Getting
 pub mod Looking
+pub mod Origins
 pub mod Reading

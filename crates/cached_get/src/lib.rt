@@ -7,6 +7,7 @@ mod copying;
 mod getting;
 mod looking;
 mod opening;
+mod origins;
 mod reading;
 
 pub use answer::Answer;

@@ -36,7 +36,7 @@ pub(crate) fn look_in_memory<R: Wait, D: Cell, M: Origin>(
     requires free { IsFree pass.old whole_tab }
     requires name { MayGo D.tells cell_state M.offers mem.now pass.old url.now }
     requires room { (basis D.tells cell_state M.offers mem.now).slot ≤ length piece.old + HEADER_SIZE }
-    ensures looked { IfOk result (λ found. Looked D.tells M.offers mem.now offer url.now pass.old found pass.new) }
+    ensures looked { IfOk result (λ found. Looked D.tells M.offers mem.now offer url.now pass.old pass.new found) }
     ensures free { IsFree pass.new whole_tab }
     ensures leaves { Leaves D.tells cell_state M.offers mem.now whole_tab pass.old pass.new }
     ensures length { length piece.new ≡ length piece.old }
