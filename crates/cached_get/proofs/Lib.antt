@@ -1,4 +1,5 @@
 mod Copied
+mod Found
 mod Given
 mod Named
 mod Searched

@@ -70,16 +70,19 @@ module _ (begins : OneBegins) (g : Ground (List ℕ)) (holds : HoldsFile g) (n a
   module _ (k : ℕ) (below : k < g.setting.anchors) (before : k ≤ g.setting.anchors) (earlier : a < k → found_below g holds n k before ≡ e) (within : a ≤ k) where
     picked : (x : ℕ) (xs : List ℕ) (is : g.chain k ≡ x ∷ xs) → ((eqb a k ≡ true) × (a ≡ k)) ⊎ ((eqb a k ≡ false) × (a ≢ k)) → (d : ((eqb x n ≡ true) × (x ≡ n)) ⊎ ((eqb x n ≡ false) × (x ≢ n)))
         → pick g holds n x d (holds.complete k below (some_there is)).0 (found_below g holds n k before) ≡ e
+    unfolding pick
     picked x xs is at (inl same) = same_entry k x xs is below (some_there is) same.1
     picked x xs is (inl at) (inr ne) = absurd (ne.1 (first_at k x xs is at.1))
     picked x xs is (inr off) (inr ne) = earlier (let o = off.1 in omega arith)
 
     at_is : (chain : List ℕ) (is : g.chain k ≡ chain) → ((eqb a k ≡ true) × (a ≡ k)) ⊎ ((eqb a k ≡ false) × (a ≢ k)) → at_chain g holds n k below chain is (found_below g holds n k before) ≡ e
+    unfolding at_chain
     at_is [] is (inl at) = absurd (some_at k is at.1)
     at_is [] is (inr off) = earlier (let o = off.1 in omega arith)
     at_is (x ∷ xs) is at = picked x xs is at (eqb_tells x n)
 
   found_is : (k : ℕ) (le : k ≤ g.setting.anchors) → a < k → found_below g holds n k le ≡ e
+  unfolding found_below
   found_is zero le lt = absurd (omega arith)
   found_is (suc k) le lt = at_is k (below_more k g.setting.anchors le) (before_more k g.setting.anchors le) (found_is k (before_more k g.setting.anchors le)) (omega arith) (g.chain k) refl (eqb_tells a k)
 
@@ -89,10 +92,12 @@ chosen slots offer (inl le) old new = new
 chosen slots offer (inr lt) old new = old
 
 chosen_old : (slots offer : ℕ) (d : ((leb slots offer ≡ true) × (slots ≤ offer)) ⊎ ((leb slots offer ≡ false) × (offer < slots))) (old new : List ℕ) → offer < slots → chosen slots offer d old new ≡ old
+unfolding chosen
 chosen_old slots offer (inl le) old new lt = absurd (let l = le.1 in omega arith)
 chosen_old slots offer (inr is) old new lt = refl
 
 chosen_new : (slots offer : ℕ) (d : ((leb slots offer ≡ true) × (slots ≤ offer)) ⊎ ((leb slots offer ≡ false) × (offer < slots))) (old new : List ℕ) → slots ≤ offer → chosen slots offer d old new ≡ new
+unfolding chosen
 chosen_new slots offer (inl is) old new le = refl
 chosen_new slots offer (inr lt) old new le = absurd (let l = lt.1 in omega arith)
 

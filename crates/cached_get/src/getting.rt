@@ -13,15 +13,15 @@ use crate::answer::Answer;
 use crate::copying::copy_read;
 use crate::looking::look_in_memory;
 use crate::opening::open_named;
-use crate::reading::{ReadOut, read_out};
+use crate::reading::{ReadOut, close_unread, read_out};
 use mem_cache::PageCell;
 use rock_disk::{Cell, Station};
 use rock_io::{Memory, Octets};
-use rock_reader::{More, close_entry};
+use rock_reader::More;
 use std::alloc::Global;
 use std::sync::Wait;
 use store_rule::{Origin, Pass, Store};
-use store_serve::{Got, WHOLE_TAB};
+use store_serve::Got;
 
 /// Gets the entry of a URL. Where the store in memory has a copy of just the response that the disk's entry is, its
 /// body comes from there, and nothing is read from the disk. Otherwise the disk's entry is read, and where that comes to
@@ -73,7 +73,7 @@ pub fn cached_get<R: Wait, D: Cell, O: Origin, St: Station<C = D>, M: Origin>(
     };
     match look_in_memory(rt, alloc, mem, mem_pass, copy, url, piece) {
         Ok(Some(bytes)) => {
-            close_entry(disk, disk_pass, WHOLE_TAB);
+            close_unread(disk, disk_pass);
             Ok(Answer::Mem {
                 version: named.version,
                 bytes,
@@ -87,7 +87,7 @@ pub fn cached_get<R: Wait, D: Cell, O: Origin, St: Station<C = D>, M: Origin>(
             Ok(from_disk(named.version, read))
         }
         Err(Memory) => {
-            close_entry(disk, disk_pass, WHOLE_TAB);
+            close_unread(disk, disk_pass);
             Err(Memory)
         }
     }

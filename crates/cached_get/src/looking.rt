@@ -8,15 +8,13 @@ ghost use Rattle.store_serve.specs.Tabs.{IsFree, IsReady, Leaves, MayGo};
 ghost use Rattle.store_serve.specs.Whole.{whole_tab};
 
 use crate::opening::open_named;
-use crate::reading::{ReadOut, read_out};
+use crate::reading::{close_unread, read_out, whole_of};
 use mem_cache::{PageCell, PageStation};
 use rock_disk::Cell;
 use rock_io::{Memory, Octets};
-use rock_reader::{More, close_entry, reading_tabs_may_go_on};
 use std::alloc::Global;
 use std::sync::Wait;
 use store_rule::{Origin, Pass, Store};
-use store_serve::{WHOLE_TAB, growing_adds_up, reading_grows};
 
 /// The whole body of the entry of a URL, where that has this offer and can be read to its end. None otherwise.
 ///
@@ -41,23 +39,16 @@ pub(crate) fn look_in_memory<R: Wait, D: Cell, M: Origin>(
     ensures leaves { Leaves D.tells cell_state M.offers mem.now whole_tab pass.old pass.new }
     ensures length { length piece.new ≡ length piece.old }
 {
-    reading_tabs_may_go_on::<PageCell<D>, M>();
-    growing_adds_up::<Octets>();
-    reading_grows::<PageCell<D>, M>();
     let Ok(named) = open_named(mem, pass, url) else {
         return Ok(None);
     };
     if named.offer != offer {
-        close_entry(mem, pass, WHOLE_TAB);
+        close_unread(mem, pass);
         return Ok(None);
     }
     let mut station = PageStation::new();
     match read_out(rt, alloc, mem, pass, &mut station, piece) {
-        Ok(ReadOut {
-            ended: More::End,
-            bytes,
-        }) => Ok(Some(bytes)),
-        Ok(_) => Ok(None),
+        Ok(read) => Ok(whole_of(read)),
         Err(Memory) => Err(Memory),
     }
 }

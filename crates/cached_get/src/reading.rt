@@ -1,11 +1,12 @@
 // The entry that a tab reads is read as far as it goes, and closed.
-ghost use Rattle.std.specs.Prelude.{IfOk, OnErr, length, ◌+◌, ◌≡◌, ◌≤◌};
+ghost use Rattle.std.specs.Prelude.{IfOk, MatchOption, OnErr, length, ◌+◌, ◌≡◌, ◌≢◌, ◌≤◌};
 ghost use Rattle.cached_get.specs.Reading.{Cut, ReadTo};
 ghost use Rattle.core_model.specs.Tabs.{InnerIsFree, tab_at};
 ghost use Rattle.core_model.specs.declared.tab.Tab.TheVariants.{Free};
 ghost use Rattle.rock_io.specs.Faults.{Rose};
+ghost use Rattle.rock_reader.specs.Closing.{Parted};
 ghost use Rattle.rock_reader.specs.Reading.{ReadsAs, Standing};
-ghost use Rattle.rock_reader.specs.Wanted.{FollowsReader};
+ghost use Rattle.rock_reader.specs.declared.answer.More.TheVariants.{End};
 ghost use Rattle.slot_cell.specs.declared.header.TheConstants.{HEADER_SIZE};
 ghost use Rattle.store_rule.specs.Passes.{basis, view};
 ghost use Rattle.store_serve.specs.Tabs.{Leaves};
@@ -67,5 +68,29 @@ pub(crate) fn read_out<R: Wait, C: Cell, O: Origin, St: Station<C = C>>(
             bytes: Octets::from_vec(out),
         }),
         Err(_) => Err(Memory),
+    }
+}
+
+/// Closes the entry that the tab of whole requests reads.
+pub(crate) fn close_unread<C: Cell, O: Origin>(store: &Store<C, O>, pass: &mut Pass<C>)
+    requires reads { (e : Standing) × ReadsAs C.tells C.state O.offers store.now pass.old whole_tab e }
+    requires inner { InnerIsFree (view pass.old) }
+    ensures parted { Parted (basis C.tells C.state O.offers store.now) whole_tab (view pass.old) (view pass.new) }
+    ensures free { tab_at (view pass.new) whole_tab ≡ Free }
+    ensures leaves { Leaves C.tells C.state O.offers store.now whole_tab pass.old pass.new }
+    ensures hand { pass.new.hand ≡ pass.old.hand }
+{
+    reading_tabs_may_go_on::<C, O>();
+    reading_grows::<C, O>();
+    close_entry(store, pass, WHOLE_TAB);
+}
+
+/// The body of an entry that was read to its end.
+pub(crate) fn whole_of(read: ReadOut) -> Option<Octets>
+    ensures { MatchOption result (read.ended ≢ End) (λ bytes. (read.ended ≡ End) × (bytes ≡ read.bytes)) }
+{
+    match read.ended {
+        More::End => Some(read.bytes),
+        _ => None,
     }
 }
