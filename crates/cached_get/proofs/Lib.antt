@@ -3,4 +3,5 @@ mod Found
 mod Given
 mod Named
 mod Searched
+mod Served
 mod Leavings

@@ -53,7 +53,7 @@ pub(crate) fn copy_read<D: Cell, M: Origin>(
     url: &[u8],
     read: ReadOut,
 ) -> ReadOut
-    requires may { MayBegin D.tells cell_state M.offers mem.now pass.old whole_tab offer url.now }
+    requires may { read.ended ≡ End → MayBegin D.tells cell_state M.offers mem.now pass.old whole_tab offer url.now }
     requires body { read.ended ≡ End → (basis D.tells cell_state M.offers mem.now).offers.body (offer - (basis D.tells cell_state M.offers mem.now).setting.slots) ≡ read.bytes }
     ensures whole { read.ended ≡ End → (outcome : Result Ended PutFault) × Tried D.tells M.offers mem.now offer url.now pass.old pass.new outcome }
     ensures part { read.ended ≢ End → pass.new ≡ pass.old }

@@ -1,23 +1,22 @@
 // The entry of a URL is got from memory, or from the disk.
-ghost use Rattle.std.specs.Prelude.{IfOk, IsTrue, OnErr, length, ◌≡◌};
-ghost use Rattle.cached_get.specs.declared.answer.Answer.TheVariants.{Disk};
+ghost use Rattle.std.specs.Prelude.{IfOk, IsTrue, OnErr, length, ◌<◌, ◌≡◌};
 ghost use Rattle.cached_get.specs.Getting.{Cached, IfDisk, IfHit, IfMem, IsHit, MayGet};
 ghost use Rattle.mem_cache.specs.Cell.{cell_state};
 ghost use Rattle.rock_io.specs.Faults.{Rose};
+ghost use Rattle.store_rule.specs.Passes.{basis};
 ghost use Rattle.store_serve.specs.Getting.{EndedWith};
 ghost use Rattle.store_serve.specs.Tabs.{IsFree, Leaves};
 ghost use Rattle.store_serve.specs.Whole.{whole_tab};
-ghost use Rattle.store_serve.specs.declared.getting.Got.TheVariants.{Found};
 
 use crate::answer::Answer;
 use crate::copying::copy_read;
 use crate::looking::look_in_memory;
 use crate::opening::open_named;
-use crate::reading::{ReadOut, close_unread, read_out};
+use crate::reading::{close_unread, read_out};
 use mem_cache::PageCell;
 use rock_disk::{Cell, Station};
 use rock_io::{Memory, Octets};
-use rock_reader::More;
+use rock_reader::{More, bodies_are_given_from_the_front};
 use std::alloc::Global;
 use std::sync::Wait;
 use store_rule::{Origin, Pass, Store};
@@ -56,6 +55,9 @@ pub fn cached_get<R: Wait, D: Cell, O: Origin, St: Station<C = D>, M: Origin>(
     ensures memory { OnErr result (St.faults station.new ≡ St.faults station.old) }
     ensures length { length piece.new ≡ length piece.old }
 {
+    bodies_are_given_from_the_front();
+    slots_are_small(disk);
+    slots_are_small(mem);
     let named = match open_named(disk, disk_pass, url) {
         Ok(named) => named,
         Err(cause) => {
@@ -69,7 +71,13 @@ pub fn cached_get<R: Wait, D: Cell, O: Origin, St: Station<C = D>, M: Origin>(
         let Ok(read) = read_out(rt, alloc, disk, disk_pass, station, piece) else {
             return Err(Memory);
         };
-        return Ok(from_disk(named.version, read));
+        return Ok(Answer::Disk {
+            got: Got::Found {
+                version: named.version,
+                ended: read.ended,
+            },
+            bytes: read.bytes,
+        });
     };
     match look_in_memory(rt, alloc, mem, mem_pass, copy, url, piece) {
         Ok(Some(bytes)) => {
@@ -83,8 +91,14 @@ pub fn cached_get<R: Wait, D: Cell, O: Origin, St: Station<C = D>, M: Origin>(
             let Ok(read) = read_out(rt, alloc, disk, disk_pass, station, piece) else {
                 return Err(Memory);
             };
-            let read = copy_read(mem, mem_pass, copy, url, read);
-            Ok(from_disk(named.version, read))
+            let kept = copy_read(mem, mem_pass, copy, url, read);
+            Ok(Answer::Disk {
+                got: Got::Found {
+                    version: named.version,
+                    ended: kept.ended,
+                },
+                bytes: kept.bytes,
+            })
         }
         Err(Memory) => {
             close_unread(disk, disk_pass);
@@ -93,15 +107,9 @@ pub fn cached_get<R: Wait, D: Cell, O: Origin, St: Station<C = D>, M: Origin>(
     }
 }
 
-// The answer for what was read of the disk's entry.
-fn from_disk(version: u32, read: ReadOut) -> Answer
-    ensures { result ≡ Disk (Found version read.ended) read.bytes }
+// The size of a slot has 32 bits.
+fn slots_are_small<C: Cell, O: Origin>(store: &Store<C, O>)
+    ensures { (basis C.tells C.state O.offers store.now).slot < 4294967296 }
 {
-    Answer::Disk {
-        got: Got::Found {
-            version,
-            ended: read.ended,
-        },
-        bytes: read.bytes,
-    }
+    let _size = store.slot_size();
 }
