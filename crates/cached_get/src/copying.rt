@@ -6,7 +6,7 @@ ghost use Rattle.rock_reader.specs.declared.answer.More.TheVariants.{End};
 ghost use Rattle.rock_writer.specs.Beginning.{MayBegin};
 ghost use Rattle.rock_writer.specs.declared.fault.Ended.{Ended};
 ghost use Rattle.store_rule.specs.Passes.{basis};
-ghost use Rattle.store_serve.specs.Tabs.{IsFree, Leaves};
+ghost use Rattle.store_serve.specs.Tabs.{IsFree, IsReady, Leaves};
 ghost use Rattle.store_serve.specs.Whole.{whole_tab};
 ghost use Rattle.store_serve.specs.declared.storing.PutFault.{PutFault};
 
@@ -45,6 +45,7 @@ pub(crate) fn copy_body<D: Cell, M: Origin>(
     }
 }
 
+#[tactic(auto, using(store_serve::proofs::Leaving::leaves_all))]
 /// Copies what was read of an entry, where that is its whole body, and gives it back.
 pub(crate) fn copy_read<D: Cell, M: Origin>(
     mem: &Store<PageCell<D>, M>,
@@ -53,6 +54,8 @@ pub(crate) fn copy_read<D: Cell, M: Origin>(
     url: &[u8],
     read: ReadOut,
 ) -> ReadOut
+    requires ready { IsReady D.tells cell_state M.offers mem.now pass.old }
+    requires free { IsFree pass.old whole_tab }
     requires may { read.ended ≡ End → MayBegin D.tells cell_state M.offers mem.now pass.old whole_tab offer url.now }
     requires body { read.ended ≡ End → (basis D.tells cell_state M.offers mem.now).offers.body (offer - (basis D.tells cell_state M.offers mem.now).setting.slots) ≡ read.bytes }
     ensures whole { read.ended ≡ End → (outcome : Result Ended PutFault) × Tried D.tells M.offers mem.now offer url.now pass.old pass.new outcome }
@@ -61,6 +64,7 @@ pub(crate) fn copy_read<D: Cell, M: Origin>(
     ensures free { IsFree pass.new whole_tab }
     ensures leaves { Leaves D.tells cell_state M.offers mem.now whole_tab pass.old pass.new }
 {
+    // A part of a body is no copy.
     match read {
         ReadOut {
             ended: More::End,
