@@ -168,3 +168,8 @@ module _ {C O : Type 0} (tells : Bool) (state : C → CellState) (offers : O →
         accepted = record { version_is = refl; keyed = view q; key = came.key; offer = offer; loaded = loaded };
         tabs = load_tabs g (view q) w t offer Side.Offer offer_start loaded ∙ came.tabs;
       }
+
+      -- the offer of the entry is the one that was loaded
+      pub opened_offer : (offer : ℕ) (w : View (List ℕ)) (loaded : Steps g (view q) (LoadSide t Side.Offer) offer w) → (opened_entry offer w loaded).accepted.offer ≡ offer
+      unfolding opened_entry
+      opened_offer offer w loaded = refl

@@ -79,25 +79,23 @@ module _ {C O : Type 0} (tells : Bool) (state : C → CellState) (offers : O →
       seen_is : (view u).seen ≡ Named (anchor_for g url) version Offer entry.accepted.offer ∷ entry.accepted.keyed.seen
       seen_is = ap View.seen entry.accepted.loaded.leaves ∙ ap (λ (x : Tab (List ℕ)). loads x Offer entry.accepted.offer ++ entry.accepted.keyed.seen) keyed_is
 
-      pub reads_kept : slot ≡ g.slot → (offer : ℕ) × ReadsAs tells state offers s q t (newly (anchor_for g url) version offer url)
-      reads_kept wide = (
-        entry.accepted.offer,
-        record {
-          own = own_is;
-          below = below;
-          reader = opened (anchor_for g url) version;
-          is = ap (λ (v : View (List ℕ)). tab_at v t) view_is ∙ tab_is;
-          idle = refl;
-          anchor_is = refl;
-          version_is = refl;
-          place_is = refl;
-          offer_seen = subst (λ (xs : List Sight). Contains xs (Named (anchor_for g url) version Offer entry.accepted.offer)) (sym (ap View.seen view_is ∙ seen_is)) (0, omega arith, refl);
-          inside = omega arith;
-          at_end = λ none some. absurd (omega arith);
-          wanted = λ f. keeps.kept ∙ ap (λ (n : ℕ). kept_of n url) wide;
-          held = λ f. let w = keeps.within in omega arith;
-          given = λ f some. absurd (omega arith);
-          other = λ f. absurd (false≢true f);
-          stopped = λ f. absurd (false≢true f);
-        },
-      )
+      -- it reads so, of the offer that was loaded
+      pub reads_kept : slot ≡ g.slot → ReadsAs tells state offers s q t (newly (anchor_for g url) version entry.accepted.offer url)
+      reads_kept wide = record {
+        own = own_is;
+        below = below;
+        reader = opened (anchor_for g url) version;
+        is = ap (λ (v : View (List ℕ)). tab_at v t) view_is ∙ tab_is;
+        idle = refl;
+        anchor_is = refl;
+        version_is = refl;
+        place_is = refl;
+        offer_seen = subst (λ (xs : List Sight). Contains xs (Named (anchor_for g url) version Offer entry.accepted.offer)) (sym (ap View.seen view_is ∙ seen_is)) (0, omega arith, refl);
+        inside = omega arith;
+        at_end = λ none some. absurd (omega arith);
+        wanted = λ f. keeps.kept ∙ ap (λ (n : ℕ). kept_of n url) wide;
+        held = λ f. let w = keeps.within in omega arith;
+        given = λ f some. absurd (omega arith);
+        other = λ f. absurd (false≢true f);
+        stopped = λ f. absurd (false≢true f);
+      }

@@ -20,5 +20,5 @@ pub use entry::come;
 pub use laws::{
     bodies_are_given_from_the_front, opened_stores_hold_their_files, reading_tabs_may_go_on,
 };
-pub use opening::open_entry;
+pub use opening::{NamedEntry, open_entry, open_named};
 pub use reading::more;

@@ -1,0 +1,5 @@
+mod Copied
+mod Given
+mod Named
+mod Searched
+mod Leavings

@@ -1,0 +1,5 @@
+pub mod Copies
+pub mod Copying
+pub mod Getting
+pub mod Looking
+pub mod Reading
