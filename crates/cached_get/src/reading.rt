@@ -20,6 +20,7 @@ use store_rule::{Origin, Pass, Store};
 use store_serve::{WHOLE_TAB, growing_adds_up, read_on, reading_grows, serving_grows};
 
 /// What was read of an entry, and why reading it ended, which was never with a piece.
+#[derive(Drop)]
 pub(crate) struct ReadOut {
     pub(crate) ended: More,
     pub(crate) bytes: Octets,
