@@ -6,7 +6,7 @@
 // A call of the list has its kind, a number of bytes and a place:
 //   r  reads at most so many bytes of standard input; the place is how many it is to get
 //   s  asks for the file by its name; f by its number
-//   o  opens it, to read and write it where the number is 1, else to read it; c closes it
+//   o  opens it, to read and write it where the number is 1, else to read it; c closes the one that was opened last
 //   g  reads so many bytes at this place
 //   p  writes a slot at this place: so many of the bytes of slots, and zeros behind them
 //   w  writes so many bytes of the text; the place is how many are to be taken
@@ -24,7 +24,7 @@ HELD(calls, FOLDER "/calls.bin");
 HELD(images, FOLDER "/images.bin");
 HELD(answers, ANSWERS);
 
-enum { SLOT = 16384, MOST = 65536 };
+enum { SLOT = 16384, MOST = 65536, MOST_OPEN = 8 };
 
 struct call {
     uint32_t kind, count;
@@ -37,7 +37,7 @@ int main(int count, char **words) {
     const struct call *call = (const struct call *)calls, *end = (const struct call *)calls_end;
     const uint8_t *image = images, *text = answers;
     struct stat file;
-    int db = -1;
+    int opened[MOST_OPEN], many = 0, db = -1;
     if (count != 2) return 2;
     for (; call < end; call++) {
         int done = 0;
@@ -52,11 +52,13 @@ int main(int count, char **words) {
             done = fstat(db, &file) == 0;
             break;
         case 'o':
-            db = open(words[1], (call->count ? O_RDWR : O_RDONLY) | O_CLOEXEC);
+            if (many == MOST_OPEN) return 1;
+            db = opened[many++] = open(words[1], (call->count ? O_RDWR : O_RDONLY) | O_CLOEXEC);
             done = db >= 0;
             break;
         case 'c':
-            done = close(db) == 0;
+            done = many > 0 && close(opened[--many]) == 0;
+            db = many > 0 ? opened[many - 1] : -1;
             break;
         case 'g':
             done = call->count <= MOST && pread(db, buffer, call->count, call->at) == (ssize_t)call->count;
