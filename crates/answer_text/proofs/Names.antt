@@ -62,6 +62,9 @@ answer_named name words =
     (cond (is name (codes "PURGED")) (answer.Purged (epoch_of (first words)))
     (cond (is name (codes "WIPED")) (answer.Wiped (epoch_of (first words)))
     (cond (is name (codes "LATER")) (answer.Later (epoch_of (first words)))
+    (cond (is name (codes "FETCHED")) (answer.Fetched (number_of (first words)) (bytes_of (first (rest (rest words)))))
+    (cond (is name (codes "DIRECT")) (answer.Direct (bytes_of (first (rest words))))
+    (cond (is name (codes "WAITED")) (answer.Waited (bytes_of (first (rest words))))
     (cond (is name (codes "NONE")) (answer.NoEntry (cause_from words))
     (cond (is name (codes "BEGUN")) (answer.Begun (number_of (first words)))
     (cond (is name (codes "ADDED")) (answer.Added (number_of (first words)))
@@ -71,7 +74,7 @@ answer_named name words =
     (cond (is name (codes "MARKED")) answer.Marked
     (cond (is name (codes "MET")) answer.Met
     (cond (is name (codes "UNMET")) answer.Unmet
-    answer.Tab)))))))))))))))))))))))))
+    answer.Tab))))))))))))))))))))))))))))
 
 abbrev pub answer_from : List (List ℕ) → Answer
 answer_from words = answer_named (first words) (rest words)
@@ -108,6 +111,10 @@ answer_back (answer.Miss cause) fits = ap answer.Miss (cause_back cause fits)
 answer_back (answer.Purged epoch) fits = ap answer.Purged (epoch_back epoch fits)
 answer_back (answer.Wiped epoch) fits = ap answer.Wiped (epoch_back epoch fits)
 answer_back (answer.Later epoch) fits = ap answer.Later (epoch_back epoch fits)
+answer_back (answer.Fetched version bytes) fits =
+    ap (λ v. answer.Fetched v (bytes_of (bytes_text bytes))) (version_back version fits.0) ∙ ap (λ bs. answer.Fetched version bs) (bytes_back bytes fits.1.each)
+answer_back (answer.Direct bytes) fits = ap answer.Direct (bytes_back bytes fits.each)
+answer_back (answer.Waited bytes) fits = ap answer.Waited (bytes_back bytes fits.each)
 answer_back (answer.NoEntry cause) fits = ap answer.NoEntry (cause_back cause fits)
 answer_back (answer.Begun version) fits = ap answer.Begun (version_back version fits)
 answer_back (answer.Added count) fits = ap answer.Added (version_back count fits)
@@ -150,6 +157,9 @@ answer_dark (answer.Miss cause) fits = (dark_by_test (codes "MISS") refl, cause_
 answer_dark (answer.Purged epoch) fits = (dark_by_test (codes "PURGED") refl, (epoch_dark epoch fits, tt))
 answer_dark (answer.Wiped epoch) fits = (dark_by_test (codes "WIPED") refl, (epoch_dark epoch fits, tt))
 answer_dark (answer.Later epoch) fits = (dark_by_test (codes "LATER") refl, (epoch_dark epoch fits, tt))
+answer_dark (answer.Fetched version bytes) fits = (dark_by_test (codes "FETCHED") refl, (version_dark version fits.0, counted_dark bytes fits.1))
+answer_dark (answer.Direct bytes) fits = (dark_by_test (codes "DIRECT") refl, counted_dark bytes fits)
+answer_dark (answer.Waited bytes) fits = (dark_by_test (codes "WAITED") refl, counted_dark bytes fits)
 answer_dark (answer.NoEntry cause) fits = (dark_by_test (codes "NONE") refl, cause_dark cause fits)
 answer_dark (answer.Begun version) fits = (dark_by_test (codes "BEGUN") refl, (version_dark version fits, tt))
 answer_dark (answer.Added count) fits = (dark_by_test (codes "ADDED") refl, (version_dark count fits, tt))

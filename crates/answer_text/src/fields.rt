@@ -44,6 +44,12 @@ pub fn fields_of(answer: &Answer) -> Fields<'_>
         Answer::Purged { epoch } => dated("PURGED", *epoch),
         Answer::Wiped { epoch } => dated("WIPED", *epoch),
         Answer::Later { epoch } => dated("LATER", *epoch),
+        Answer::Fetched { version, bytes } => {
+            let version = Field::Number(u64::from(*version));
+            counted("FETCHED", Some(version), bytes)
+        }
+        Answer::Direct { bytes } => counted("DIRECT", None, bytes),
+        Answer::Waited { bytes } => counted("WAITED", None, bytes),
         Answer::NoEntry { cause } => caused("NONE", cause),
         Answer::Begun { version } => numbered("BEGUN", u64::from(*version)),
         Answer::Added { count } => numbered("ADDED", u64::from(*count)),

@@ -5,9 +5,11 @@ use Rattle.script_text.specs.declared.body.Body.{Body}
 use Rattle.script_text.specs.declared.body.Body.TheVariants.{Text, Made}
 use Rattle.script_text.specs.declared.line.Line.{Line}
 use Rattle.script_text.specs.declared.request.Request.{Request}
-use Rattle.script_text.specs.declared.request.Request.TheVariants.{Put, Save, Get, Purge, Wipe, Begin, Add, End, DropTab, OpenTab, More, CloseTab, Mark, Await}
+use Rattle.script_text.specs.declared.request.Request.TheVariants.{Put, Save, Get, Purge, Wipe, Forward, Begin, Add, End, DropTab, OpenTab, More, CloseTab, Mark, Await}
 use Rattle.script_text.specs.declared.answer.Answer.{Answer}
 use Rattle.script_text.specs.declared.answer.Answer.TheVariants as answer
+use Rattle.lock_word.specs.declared.cause.Cause.{Cause}
+use Rattle.lock_word.specs.declared.cause.Cause.TheVariants as cause
 use Rattle.plain_model.specs.declared.store.Setting.{Setting}
 use Rattle.plain_model.specs.declared.store.Tab.{Tab}
 use Rattle.plain_model.specs.declared.store.Tab.TheVariants.{Free, Writing, Reading}
@@ -55,6 +57,34 @@ get s url p = on (open_tab s 7 url p)
         of_answer (answer.Opened version) = read version (more s 7 opened.after)
         of_answer other = opened
 
+-- what a forwarding is answered that fetches, where a put is answered this: the whole body is given on, whether it is stored or not
+abbrev pub fetched_by : (body : List ℕ) → Answer → Answer
+fetched_by body (answer.Stored version) = answer.Fetched version body
+fetched_by body (answer.Doomed version) = answer.Fetched version body
+fetched_by body refused = answer.Direct body
+
+-- a response is fetched, and stored as by a put
+abbrev pub fetch : Setting → (url body : List ℕ) → ℕ → Plain → Step
+fetch s url body offer p = step (fetched_by body (put s url body offer p).answer) (put s url body offer p).after
+
+-- One is forwarded by reading it as a get does, or else by fetching it. This worker is the only one, so nobody goes on with an entry that
+-- grows while it waits. Of another URL's entry nothing is given, and nothing takes its place.
+abbrev pub forward : Setting → (url body : List ℕ) → ℕ → Plain → Step
+forward s url body offer p = on (get s url p)
+  where
+    on : Step → Step
+    on got = of_answer got.answer
+      where
+        missed : Cause → Step
+        missed (cause.Writing epoch) = step (answer.Waited []) got.after
+        missed other = fetch s url body offer got.after
+
+        of_answer : Answer → Step
+        of_answer (answer.Part epoch bytes) = step (answer.Waited bytes) got.after
+        of_answer answer.OtherUrl = step (answer.Direct body) got.after
+        of_answer (answer.Miss why) = missed why
+        of_answer other = got
+
 -- the line sets this mark
 abbrev pub sets : ℕ → Request → Bool
 sets mark (Mark other) = other == mark
@@ -77,6 +107,7 @@ serve s script line p = on line.request
     on (Get url) = get s url p
     on (Purge url) = purge s url p
     on (Wipe url) = wipe s url p
+    on (Forward url body) = forward s url (bytes_of body) offer p
     on (Begin tab url body) = begin s tab url (bytes_of body) offer p
     on (Add tab count) = add s tab count p
     on (End tab) = end s tab p

@@ -9,7 +9,7 @@ use Rattle.script_text.specs.declared.body.Body.{Body}
 use Rattle.script_text.specs.declared.body.Body.TheVariants.{Text, Made}
 use Rattle.script_text.specs.declared.line.Line.{Line}
 use Rattle.script_text.specs.declared.request.Request.{Request}
-use Rattle.script_text.specs.declared.request.Request.TheVariants.{Put, Save, Begin, Add, End, DropTab, OpenTab, More, CloseTab}
+use Rattle.script_text.specs.declared.request.Request.TheVariants.{Put, Save, Forward, Begin, Add, End, DropTab, OpenTab, More, CloseTab}
 use Rattle.script_text.specs.declared.verb.Verb.{Verb}
 use Rattle.plain_store.specs.Servable.{IsServable}
 use Rattle.std.proofs.lemmas.List.Elements.{All-nil, All-push}
@@ -22,6 +22,7 @@ short_body (Made count shift) word spelled =
 pub servable : (request : Request) (name : Verb) (words : List (List ℕ)) → SpellsRequest request name words → IsServable request
 servable (Put url body) name words h = (h.1.0.short, short_body body h.1.1.0 h.1.1.1)
 servable (Save url body) name words h = (h.1.0.short, short_body body h.1.1.0 h.1.1.1)
+servable (Forward url body) name words h = (h.1.0.short, short_body body h.1.1.0 h.1.1.1)
 servable (Begin tab url body) name words h = (h.1.0, (h.1.1.short, short_body body h.1.2.0 h.1.2.1))
 servable (Add tab count) name words h = h.1.0
 servable (End tab) name words h = h.1.0

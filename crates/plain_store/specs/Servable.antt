@@ -23,6 +23,7 @@ IsServable request = of_shape (shape_of request)
     of_shape (Shape.Stores url body durable) = IsOffer url body
     of_shape (Shape.Reads url) = Unit {0}
     of_shape (Shape.Purges url) = Unit {0}
+    of_shape (Shape.Forwards url body) = IsOffer url body
     of_shape (Shape.Begins tab url body) = (tab ≤ 6) × IsOffer url body
     of_shape (Shape.Opens tab url) = tab ≤ 6
     of_shape (Shape.WritesOn tab) = tab ≤ 6

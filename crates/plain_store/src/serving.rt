@@ -4,11 +4,12 @@ ghost use Rattle.std.specs.List.{range_with_len};
 ghost use Rattle.script_text.specs.declared.line.Line.{Line};
 ghost use Rattle.script_text.specs.Fields.{body_size};
 ghost use Rattle.plain_model.specs.Writing.{step, begin};
-ghost use Rattle.plain_model.specs.Serving.{bytes_of, put, get, is_set_before, sets, serve, answers, after, lines_for, leave, leave_all, answers_of, left_by};
+ghost use Rattle.plain_model.specs.Serving.{bytes_of, put, get, fetch, forward, is_set_before, sets, serve, answers, after, lines_for, leave, leave_all, answers_of, left_by};
 ghost use Rattle.plain_store.specs.Servable.{IsOpenable, IsOffer, IsServable};
 
 use crate::reading::{close, more, open_tab, purge, wipe};
 use crate::writing::{add, begin, end, give_up};
+use lock_word::Cause;
 use plain_model::{Answers, Plain, Setting, Tab};
 use rock_io::{Memory, Octets};
 use script_text::{Answer, Body, Line, Request};
@@ -94,6 +95,57 @@ fn get(alloc: Global, setting: &Setting, store: &mut Plain, url: &[u8]) -> Resul
     })
 }
 
+/// Fetches what a line offers, gives it on, and stores it.
+fn fetch(
+    alloc: Global,
+    setting: &Setting,
+    store: &mut Plain,
+    url: &Octets,
+    body: &Body,
+    number: u32,
+) -> Result<Answer, Memory>
+    requires open { IsOpenable setting.now }
+    requires offer { IsOffer url.now body.now }
+    ensures { IfOk result (λ answer. fetch setting.now url.now (bytes_of body.now) (setting.now.slots + number) store.old ≡ step answer store.new) }
+{
+    let stored = put(alloc, setting, store, url, body, number)?;
+    let bytes = bytes_of(alloc, body)?;
+    Ok(match stored {
+        Answer::Stored { version } | Answer::Doomed { version } => {
+            Answer::Fetched { version, bytes }
+        }
+        _ => Answer::Direct { bytes },
+    })
+}
+
+/// Reads a response, or else fetches what a line offers.
+fn forward(
+    alloc: Global,
+    setting: &Setting,
+    store: &mut Plain,
+    url: &Octets,
+    body: &Body,
+    number: u32,
+) -> Result<Answer, Memory>
+    requires open { IsOpenable setting.now }
+    requires offer { IsOffer url.now body.now }
+    ensures { IfOk result (λ answer. forward setting.now url.now (bytes_of body.now) (setting.now.slots + number) store.old ≡ step answer store.new) }
+{
+    match get(alloc, setting, store, url.as_slice())? {
+        Answer::Miss {
+            cause: Cause::Writing { .. },
+        } => Ok(Answer::Waited {
+            bytes: Octets::from_vec(Vec::new(alloc)),
+        }),
+        Answer::Miss { .. } => fetch(alloc, setting, store, url, body, number),
+        Answer::Part { bytes, .. } => Ok(Answer::Waited { bytes }),
+        Answer::OtherUrl => Ok(Answer::Direct {
+            bytes: bytes_of(alloc, body)?,
+        }),
+        answer => Ok(answer),
+    }
+}
+
 /// Whether a line of the script before this number sets a mark.
 fn is_set_before(script: &[Line], number: u32, mark: u8) -> bool
     ensures { result ≡ is_set_before script.now number mark }
@@ -131,6 +183,7 @@ fn serve(
         Request::Get { url } => get(alloc, setting, store, url.as_slice()),
         Request::Purge { url } => Ok(purge(setting, store, url.as_slice())),
         Request::Wipe { url } => Ok(wipe(setting, store, url.as_slice())),
+        Request::Forward { url, body } => { forward(alloc, setting, store, url, body, line.number) }
         Request::Begin { tab, url, body } => {
             begin_offer(alloc, setting, store, *tab, url, body, line.number)
         }

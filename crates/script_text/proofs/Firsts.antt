@@ -11,7 +11,7 @@ use Rattle.script_text.specs.Reading.{IsInBounds, HasHead, IsBarred}
 use Rattle.script_text.specs.declared.body.Body.{Body}
 use Rattle.script_text.specs.declared.line.Line.{Line}
 use Rattle.script_text.specs.declared.request.Request.{Request}
-use Rattle.script_text.specs.declared.request.Request.TheVariants.{Put, Save, Begin, Mark}
+use Rattle.script_text.specs.declared.request.Request.TheVariants.{Put, Save, Forward, Begin, Mark}
 use Rattle.script_text.specs.declared.verb.Verb.{Verb}
 use Rattle.script_text.specs.declared.verb.Verb.TheVariants as verb
 
@@ -120,6 +120,7 @@ offers_at body name other fields words names are offers =
 offered : (request : Request) (name : Verb) (fields : List (List ℕ)) → SpellsRequest request name fields → 0 < offered_size request → (body : Body) × Offers body (kinds_of name) fields × (body_size body ≡ offered_size request)
 offered (Put url body) name fields (is, (good, (word, spelled, are))) some = (body, offers_at body name verb.Put fields (url ∷ word ∷ []) is are (inr (inl (refl, spelled))), refl)
 offered (Save url body) name fields (is, (good, (word, spelled, are))) some = (body, offers_at body name verb.Save fields (url ∷ word ∷ []) is are (inr (inl (refl, spelled))), refl)
+offered (Forward url body) name fields (is, (good, (word, spelled, are))) some = (body, offers_at body name verb.Forward fields (url ∷ word ∷ []) is are (inr (inl (refl, spelled))), refl)
 offered (Begin tab url body) name fields (is, (low, good, (word, spelled, are))) some =
     (body, offers_at body name verb.Begin fields (decimal tab ∷ url ∷ word ∷ []) is are (inr (inr (inl (refl, spelled)))), refl)
 offered request name fields spelled some = absurd (omega arith)

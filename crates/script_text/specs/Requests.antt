@@ -6,7 +6,7 @@ use Rattle.script_text.specs.declared.body.Body.{Body}
 use Rattle.script_text.specs.Shapes.{Shape, shape_of}
 use Rattle.script_text.specs.Fields.Kind.{TabWord, UrlWord, BodyWord, CountWord, MarkWord}
 use Rattle.script_text.specs.declared.request.Request.{Request}
-use Rattle.script_text.specs.declared.request.Request.TheVariants.{Put, Save, Get, Purge, Wipe, Begin, Add, End, DropTab, OpenTab, More, CloseTab, Mark, Await}
+use Rattle.script_text.specs.declared.request.Request.TheVariants.{Put, Save, Get, Purge, Wipe, Forward, Begin, Add, End, DropTab, OpenTab, More, CloseTab, Mark, Await}
 use Rattle.script_text.specs.declared.verb.Verb.{Verb}
 use Rattle.script_text.specs.declared.verb.Verb.TheVariants as verb
 
@@ -17,6 +17,7 @@ name_of verb.Save = codes "save"
 name_of verb.Get = codes "get"
 name_of verb.Purge = codes "purge"
 name_of verb.Wipe = codes "wipe"
+name_of verb.Forward = codes "forward"
 name_of verb.Begin = codes "begin"
 name_of verb.Add = codes "add"
 name_of verb.End = codes "end"
@@ -33,6 +34,7 @@ kinds_of verb.Save = UrlWord ∷ BodyWord ∷ []
 kinds_of verb.Get = UrlWord ∷ []
 kinds_of verb.Purge = UrlWord ∷ []
 kinds_of verb.Wipe = UrlWord ∷ []
+kinds_of verb.Forward = UrlWord ∷ BodyWord ∷ []
 kinds_of verb.Begin = TabWord ∷ UrlWord ∷ BodyWord ∷ []
 kinds_of verb.Add = TabWord ∷ CountWord ∷ []
 kinds_of verb.End = TabWord ∷ []
@@ -51,6 +53,7 @@ url_in request = of_shape (shape_of request)
     of_shape (Shape.Stores url body durable) = Some url
     of_shape (Shape.Reads url) = Some url
     of_shape (Shape.Purges url) = Some url
+    of_shape (Shape.Forwards url body) = Some url
     of_shape (Shape.Begins tab url body) = Some url
     of_shape (Shape.Opens tab url) = Some url
     of_shape (Shape.WritesOn tab) = None
@@ -87,6 +90,7 @@ SpellsRequest (Save url body) name words = (name ≡ verb.Save) × AreUrlAndBody
 SpellsRequest (Get url) name words = (name ≡ verb.Get) × AreUrl url words
 SpellsRequest (Purge url) name words = (name ≡ verb.Purge) × AreUrl url words
 SpellsRequest (Wipe url) name words = (name ≡ verb.Wipe) × AreUrl url words
+SpellsRequest (Forward url body) name words = (name ≡ verb.Forward) × AreUrlAndBody url body words
 SpellsRequest (Begin tab url body) name words = (name ≡ verb.Begin) × AreTabUrlAndBody tab url body words
 SpellsRequest (Add tab count) name words = (name ≡ verb.Add) × AreTabAndCount tab count words
 SpellsRequest (End tab) name words = (name ≡ verb.End) × AreTab tab words
@@ -105,6 +109,7 @@ offered_size request = of_shape (shape_of request)
     of_shape (Shape.Stores url body durable) = body_size body
     of_shape (Shape.Reads url) = 0
     of_shape (Shape.Purges url) = 0
+    of_shape (Shape.Forwards url body) = body_size body
     of_shape (Shape.Begins tab url body) = body_size body
     of_shape (Shape.Opens tab url) = 0
     of_shape (Shape.WritesOn tab) = 0
@@ -119,6 +124,7 @@ OffersBody request url body = of_shape (shape_of request)
     of_shape (Shape.Stores u b durable) = (u ≡ url) × (b ≡ body)
     of_shape (Shape.Reads u) = ⊥
     of_shape (Shape.Purges u) = ⊥
+    of_shape (Shape.Forwards u b) = (u ≡ url) × (b ≡ body)
     of_shape (Shape.Begins tab u b) = (u ≡ url) × (b ≡ body)
     of_shape (Shape.Opens tab u) = ⊥
     of_shape (Shape.WritesOn tab) = ⊥
@@ -133,6 +139,7 @@ offers_body request = of_shape (shape_of request)
     of_shape (Shape.Stores url body durable) = true
     of_shape (Shape.Reads url) = false
     of_shape (Shape.Purges url) = false
+    of_shape (Shape.Forwards url body) = true
     of_shape (Shape.Begins tab url body) = true
     of_shape (Shape.Opens tab url) = false
     of_shape (Shape.WritesOn tab) = false

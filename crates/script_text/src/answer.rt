@@ -40,6 +40,12 @@ pub enum Answer {
     Wiped { epoch: Epoch },
     /// It was purged, and others still use it, so that it is not erased.
     Later { epoch: Epoch },
+    /// A response was fetched, given on and stored, under this version. The bytes are the whole body.
+    Fetched { version: u32, bytes: Octets },
+    /// A response was fetched and given on, and not stored. The bytes are the whole body.
+    Direct { bytes: Octets },
+    /// An entry was looked for or followed, and its writer did not go on. The bytes are what was there of it.
+    Waited { bytes: Octets },
     /// No entry can be purged.
     NoEntry { cause: Cause },
     /// Writing began.

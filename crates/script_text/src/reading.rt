@@ -39,9 +39,10 @@ fn offered_size(request: &Request) -> usize
     ensures { result ≡ offered_size request.now }
 {
     match request {
-        Request::Put { body, .. } | Request::Save { body, .. } | Request::Begin { body, .. } => {
-            body_size(body)
-        }
+        Request::Put { body, .. }
+        | Request::Save { body, .. }
+        | Request::Forward { body, .. }
+        | Request::Begin { body, .. } => body_size(body),
         _ => 0,
     }
 }

@@ -14,6 +14,8 @@ pub enum Request {
     Purge { url: Octets },
     /// Take it out of use, and erase it on the disk.
     Wipe { url: Octets },
+    /// Read a response, or else fetch this one, give it on and store it.
+    Forward { url: Octets, body: Body },
     /// Begin to write a response on a tab.
     Begin { tab: u8, url: Octets, body: Body },
     /// Add the next bytes of its body.

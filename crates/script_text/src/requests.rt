@@ -34,6 +34,10 @@ pub fn request_of(alloc: Global, name: Verb, fields: &[&[u8]]) -> Result<Request
         Verb::Wipe => Ok(Request::Wipe {
             url: url_alone(alloc, fields)?,
         }),
+        Verb::Forward => {
+            let (url, body) = url_and_body(alloc, fields)?;
+            Ok(Request::Forward { url, body })
+        }
         Verb::Begin => {
             let (tab, url, body) = tab_url_and_body(alloc, fields)?;
             Ok(Request::Begin { tab, url, body })

@@ -155,6 +155,96 @@ put http://a/b #1846:0 -> STORED 2
 wipe http://a/c -> WIPED 5.3d
 get http://a/c -> MISS absent 5.6d
 
+== forwarded_and_hit; 8; 1; new
+forward http://a/b =hello -> FETCHED 1 5 68656c6c6f
+forward http://a/b =other -> HIT 1 5 68656c6c6f
+get http://a/b -> HIT 1 5 68656c6c6f
+
+== forwarded_without_a_body; 8; 1; new
+forward http://a/b - -> FETCHED 1 0 -
+forward http://a/b =x -> HIT 1 0 -
+
+== forwarded_and_listed; 8; 1; new
+forward http://a/b #431:0 -> FETCHED 1 431 letters 0 431
+left -> 1 2 431
+
+== forwarded_while_it_grows; 8; 1; new
+begin 0 http://a/b #1300:0 -> BEGUN 1
+add 0 900 -> ADDED 900
+forward http://a/b =x -> WAITED 430 letters 0 430
+
+== forwarded_before_and_behind; 8; 1; new
+begin 0 http://a/b #1300:0 -> BEGUN 1
+forward http://a/b =x -> WAITED 0 -
+forward http://a/c =x -> WAITED 0 -
+add 0 900 -> ADDED 900
+forward http://a/b =x -> WAITED 430 letters 0 430
+forward http://a/c =x -> DIRECT 1 78
+end 0 -> STORED 1
+forward http://a/b =x -> HIT 1 1300 letters 0 1300
+forward http://a/c =x -> FETCHED 2 1 78
+
+== forwarded_where_another_is_read; 8; 1; new
+put http://a/b =x -> STORED 1
+open 0 http://a/b -> OPEN 1
+forward http://a/c =y -> DIRECT 1 79
+forward http://a/b =y -> HIT 1 1 78
+more 0 -> END 1 78
+close 0 -> CLOSED
+forward http://a/c =y -> FETCHED 2 1 79
+get http://a/b -> MISS other 2.3 4877c9348b6d7299e213896f839c80b8
+
+== forwarded_where_a_purged_one_is_read; 8; 1; new
+put http://a/b =x -> STORED 1
+open 0 http://a/b -> OPEN 1
+purge http://a/b -> PURGED 1.3d
+forward http://a/b =y -> DIRECT 1 79
+close 0 -> CLOSED
+forward http://a/b =y -> FETCHED 2 1 79
+
+== forwarded_where_a_purged_one_grows; 8; 1; new
+begin 0 http://a/b #1300:0 -> BEGUN 1
+add 0 900 -> ADDED 900
+purge http://a/b -> PURGED 1.2d
+forward http://a/b =x -> DIRECT 1 78
+end 0 -> DOOMED 1
+forward http://a/b =x -> FETCHED 2 1 78
+
+== forwarded_where_a_halted_one_is_read; 8; 1; new
+begin 0 http://a/b #1300:0 -> BEGUN 1
+add 0 900 -> ADDED 900
+open 1 http://a/b -> OPEN 1
+drop 0 -> DROPPED
+forward http://a/b =x -> DIRECT 1 78
+close 1 -> CLOSED
+forward http://a/b =x -> FETCHED 2 1 78
+
+== forwarded_and_large; 2; 1; new
+forward http://a/b #902:0 -> FETCHED 1 902 letters 0 902
+purge http://a/b -> PURGED 1.3d
+forward http://a/b #903:0 -> DIRECT 903 letters 0 903
+get http://a/b -> MISS absent 2.6
+
+== forwarded_and_full; 3; 2; new
+put http://a/02 #901:0 -> STORED 1
+open 0 http://a/02 -> OPEN 1
+forward http://a/00 #901:0 -> DIRECT 901 letters 0 901
+get http://a/00 -> MISS absent 2.6
+forward http://a/00 =x -> FETCHED 3 1 78
+
+== forwarded_and_evicted; 2; 2; new
+forward http://a/02 #901:0 -> FETCHED 1 901 letters 0 901
+forward http://a/00 =x -> FETCHED 2 1 78
+forward http://a/02 =y -> FETCHED 3 1 79
+
+== forwarded_entry_of_the_file; 2; 1; http://a/c y 5
+forward http://a/c =x -> HIT 5 1 79
+forward http://a/b =x -> FETCHED 6 1 78
+
+== forwarded_and_spent; 1; 1; http://a/b hello 4294901760
+forward http://a/c =x -> DIRECT 1 78
+forward http://a/b =x -> HIT 4294901760 5 68656c6c6f
+
 == large; 2; 1; new
 put http://a/b #902:0 -> STORED 1
 put http://a/b #903:0 -> LARGE
@@ -223,7 +313,7 @@ get http://a/b -> HIT 5 1 78
 #[test]
 fn scripts_are_answered(rt: HostRuntime) -> Result<(), Fail> {
     let count = plays(&rt, SCRIPTS)?;
-    assert_eq!(rt; count, 139);
+    assert_eq!(rt; count, 201);
     Ok(())
 }
 
@@ -237,6 +327,8 @@ fn long_urls(rt: HostRuntime) -> Result<(), Fail> {
 put a{longest} =x -> LONGURL
 put {longest} =x -> STORED 1
 get {longest} -> HIT 1 1 78
+forward a{longest} =x -> DIRECT 1 78
+forward {longest} =y -> HIT 1 1 78
 
 == long_urls_and_listed; 4; 1; new
 put {longest} =x -> STORED 1
@@ -244,7 +336,7 @@ left -> 1 2 1
 "
     )?;
     let count = plays(&rt, text.as_str())?;
-    assert_eq!(rt; count, 5);
+    assert_eq!(rt; count, 7);
     Ok(())
 }
 

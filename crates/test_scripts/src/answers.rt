@@ -167,6 +167,9 @@ fn with_bytes(name: u64, bytes: Octets) -> Option<Answer> {
         2 => Answer::End { bytes },
         3 => Answer::Halted { bytes },
         4 => Answer::ReadFault { bytes },
+        5 => Answer::Fetched { version: 1, bytes },
+        6 => Answer::Direct { bytes },
+        7 => Answer::Waited { bytes },
         _ => return None,
     })
 }
@@ -184,7 +187,13 @@ const BYTES: &str = "\
 1 5 halted;1;;1 5 HALTED 0 -
 1 5 halted;1;6162;1 5 HALTED 2 *
 1 2 read_fault;1;;1 2 FAULT 0 -
-1 2 read_fault;1;200a;1 2 FAULT 2 *";
+1 2 read_fault;1;200a;1 2 FAULT 2 *
+1 1 fetched;1;;1 1 FETCHED 1 0 -
+1 1 fetched;1;68656c6c6f;1 1 FETCHED 1 5 *
+1 3 direct;1;;1 3 DIRECT 0 -
+1 3 direct;1;79;1 3 DIRECT 1 *
+1 3 waited;1;;1 3 WAITED 0 -
+1 3 waited;1;6162;1 3 WAITED 2 *";
 
 /// Whether the line of an answer with bytes is as it stands in the row.
 fn is_with_bytes(alloc: Global, row: &str) -> Option<bool> {
@@ -201,7 +210,7 @@ fn is_with_bytes(alloc: Global, row: &str) -> Option<bool> {
 
 #[test]
 fn answers_with_bytes_have_their_lines(rt: HostRuntime) {
-    assert_eq!(rt; BYTES.lines().count(), 11);
+    assert_eq!(rt; BYTES.lines().count(), 17);
     for row in BYTES.lines() {
         assert!(rt; is_with_bytes(rt.alloc(), row) == Some(true), "{row}");
     }

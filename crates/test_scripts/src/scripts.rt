@@ -45,6 +45,7 @@ const SHORT: &str = "\
 2;1 get http://a/b|;Ok(1)
 2;1 get http://a/b|2 get http://a/b;Ok(2)
 2;1 wipe http://a/b;Ok(1)
+2;1 forward http://a/b =x;Ok(1)
 2;|;Err(BadLine { line: 1, cause: 3 })
 2;1 get http://a/b||;Err(BadLine { line: 2, cause: 3 })
 2;1 get http://a/b|  |;Err(BadLine { line: 2, cause: 3 })
@@ -67,12 +68,15 @@ const SHORT: &str = "\
 2;1 begin 9 ;Err(BadLine { line: 1, cause: 5 })
 2;1 wipe;Err(BadLine { line: 1, cause: 5 })
 2;1 wipe http://a/b c;Err(BadLine { line: 1, cause: 5 })
+2;1 forward http://a/b;Err(BadLine { line: 1, cause: 5 })
+2;1 forward http://a/b =x c;Err(BadLine { line: 1, cause: 5 })
 2;1 more 7;Err(BadLine { line: 1, cause: 6 })
 2;1 more 00;Err(BadLine { line: 1, cause: 6 })
 2;1 begin 7  x;Err(BadLine { line: 1, cause: 6 })
 2;1 get ;Err(BadLine { line: 1, cause: 7 })
 2;1 put  x;Err(BadLine { line: 1, cause: 7 })
 2;1 wipe ;Err(BadLine { line: 1, cause: 7 })
+2;1 forward  x;Err(BadLine { line: 1, cause: 7 })
 2;1 put http://a/b x;Err(BadLine { line: 1, cause: 8 })
 2;1 put http://a/b ;Err(BadLine { line: 1, cause: 8 })
 2;1 put http://a/b =;Err(BadLine { line: 1, cause: 8 })
@@ -81,6 +85,9 @@ const SHORT: &str = "\
 2;1 put http://a/b #01:2;Err(BadLine { line: 1, cause: 8 })
 2;1 put http://a/b #4194305:0;Err(BadLine { line: 1, cause: 8 })
 2;1 put http://a/b #4194304:25;Ok(1)
+2;1 forward http://a/b x;Err(BadLine { line: 1, cause: 8 })
+2;1 forward http://a/b #4194305:0;Err(BadLine { line: 1, cause: 8 })
+2;1 forward http://a/b #4194304:25;Ok(1)
 2;1 add 0 0;Err(BadLine { line: 1, cause: 9 })
 2;1 add 0 00;Err(BadLine { line: 1, cause: 9 })
 2;1 add 0 4194304;Ok(1)
@@ -105,7 +112,7 @@ fn is_short_told(alloc: Global, row: &str, most: usize) -> Option<bool> {
 
 #[test]
 fn short_scripts_are_good_or_bad_as_tabled(rt: HostRuntime) {
-    assert_eq!(rt; SHORT.lines().count(), 54);
+    assert_eq!(rt; SHORT.lines().count(), 61);
     for row in SHORT.lines() {
         for most in [1, 7, 8192] {
             assert!(rt;
@@ -131,7 +138,8 @@ const LONG: &str = "\
 1 more 0|;1 more 0|;4095;Ok(4096)
 ;1 put b #4194304:0|;16;Ok(16)
 ;1 put b #4194304:0|;17;Err(BadLine { line: 17, cause: 8 })
-1 put b =a|;1 begin 0 b #4194304:0|;16;Err(BadLine { line: 17, cause: 8 })";
+1 put b =a|;1 begin 0 b #4194304:0|;16;Err(BadLine { line: 17, cause: 8 })
+1 forward b =a|;1 put b #4194304:0|;16;Err(BadLine { line: 17, cause: 8 })";
 
 /// Whether a script of many pieces is told as it stands in the row.
 fn is_long_told(alloc: Global, row: &str, most: usize) -> Option<bool> {
@@ -146,7 +154,7 @@ fn is_long_told(alloc: Global, row: &str, most: usize) -> Option<bool> {
 
 #[test]
 fn long_scripts_are_good_or_bad_as_tabled(rt: HostRuntime) {
-    assert_eq!(rt; LONG.lines().count(), 14);
+    assert_eq!(rt; LONG.lines().count(), 15);
     for row in LONG.lines() {
         for most in [7, 8192] {
             assert!(rt;
@@ -160,9 +168,8 @@ fn long_scripts_are_good_or_bad_as_tabled(rt: HostRuntime) {
 /// The number that a request has, or else 0, and the lengths of its URL and its body.
 fn parts(request: &Request) -> (u32, usize, usize) {
     match request {
-        Request::Put { url, body } | Request::Save { url, body } => {
-            (0, url.as_slice().len(), length_of(body))
-        }
+        Request::Put { url, body } | Request::Save { url, body } | Request::Forward { url, body } =>
+            { (0, url.as_slice().len(), length_of(body)) }
         Request::Begin { tab, url, body } => {
             (u32::from(*tab), url.as_slice().len(), length_of(body))
         }
@@ -201,7 +208,8 @@ const REQUESTS: &str = "\
 1 close 6;1 11 (6, 0, 0)
 2 mark 0;2 12 (0, 0, 0)
 1 await 63;1 13 (63, 0, 0)
-1 wipe http://a/b;1 14 (0, 10, 0)";
+1 wipe http://a/b;1 14 (0, 10, 0)
+1 forward http://a/b =hello;1 15 (0, 10, 5)";
 
 /// The lines of the rows, as they are read.
 fn read_requests(alloc: Global) -> Option<Script> {
@@ -229,7 +237,7 @@ fn each_request_is_read(rt: HostRuntime) {
         return;
     };
     let lines = script.lines.as_slice();
-    assert_eq!(rt; (lines.len(), REQUESTS.lines().count()), (14, 14));
+    assert_eq!(rt; (lines.len(), REQUESTS.lines().count()), (15, 15));
     for (line, row) in lines.iter().zip(REQUESTS.lines()) {
         assert!(rt; has_parts(rt.alloc(), line, row) == Some(true), "{row}");
     }
