@@ -37,12 +37,13 @@ KINDS = """
     STORED DOOMED SPENT LONGURL FULL LARGE HIT END HALTED BEGUN ADDED DROPPED OPEN CLOSED MARKED MET UNMET
     BUSY_1 BUSY_2 BUSY_2d BUSY_3 BUSY_3d BUSY_4 BUSY_4d PART_2 PART_2d PURGED_2d PURGED_3d
     WIPED_3d LATER_2d LATER_3d
+    FETCHED DIRECT WAITED
     MISS_absent_0 MISS_absent_6 MISS_absent_6d MISS_writing_1 MISS_leaving_2d MISS_leaving_3d MISS_leaving_4
     MISS_leaving_4d MISS_other_2 MISS_other_3
     NONE_absent_0 NONE_absent_6 NONE_absent_6d NONE_writing_1 NONE_leaving_2d NONE_leaving_3d NONE_leaving_4
     NONE_leaving_4d NONE_other_2 NONE_other_3
     TAB_begin TAB_add TAB_end TAB_drop TAB_open TAB_more TAB_close
-    put save get purge wipe begin add end drop open more close mark await
+    put save get purge wipe forward begin add end drop open more close mark await
     evicted evicted_behind_the_hand evicted_in_vain refused_at_the_first_publishing refused_at_a_later_publishing
     refused_at_the_last_slot HIT_of_the_file HIT_of_many_slots replaced found_whole
     tied_in_the_file counter_of_no_entry
@@ -304,6 +305,21 @@ class Store:
             self.wiped.add(version)
         return answer
 
+    def forward(self, url, body):
+        got = self.get(url)
+        word, *rest = got.split(" ", 1)
+        if word == "PART":
+            return f"WAITED {rest[0].split(' ', 1)[1]}"
+        if got.startswith("MISS writing"):
+            return "WAITED 0 -"
+        given = f"{len(body)} {body.hex() or '-'}"
+        if word == "OTHERURL":
+            return f"DIRECT {given}"
+        if word != "MISS":
+            return got
+        stored = self.put(url, body).split()
+        return f"FETCHED {stored[1]} {given}" if stored[0] in ("STORED", "DOOMED") else f"DIRECT {given}"
+
     def mark(self, mark):
         self.marks.add(mark)
         return "MARKED"
@@ -356,8 +372,8 @@ def kind_of(name, answer):
 # script has other shares of each.
 READY = {type(None): "begin open open", Writer: "add add add add add purge wipe end drop", Reader: "more more more close"}
 FREEING = {type(None): "put get", Writer: "end drop", Reader: "close"}
-WHOLE = "put put put put save save get get get get purge wipe mark await"
-EVERY = "put save get purge wipe begin add end drop open more close mark await"
+WHOLE = "put put put put save save get get get get purge wipe forward forward forward mark await"
+EVERY = "put save get purge wipe forward begin add end drop open more close mark await"
 SHARES = [(6, 0, 3, 1), (6, 0, 3, 1), (4, 0, 9, 1), (2, 0, 12, 1), (0, 9, 6, 1)]
 
 
@@ -393,7 +409,7 @@ def line_for(chance, store, urls, shares):
     count = chance.choice([1, 100, ROOM - 1, ROOM, ROOM + 1, 900, 900, 4194304, chance.randint(1, 1000)])
     if name == "mark" and mark in store.marks:
         name = "await"
-    if name in ("put", "save"):
+    if name in ("put", "save", "forward"):
         return [name, url, body_for(chance, url)]
     if name in ("get", "purge", "wipe"):
         return [name, url]
