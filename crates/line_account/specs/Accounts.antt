@@ -35,7 +35,8 @@ epoch_in (OtherKey e key) = e
 
 -- The epochs that an answer shows, as numbers. Of a version that is printed alone they are: at STORED and DOOMED the epoch of the whole
 -- entry, at BEGUN that of the entry that has no slot yet, and at OPEN and HIT the one at which the entry was opened. At PURGED,
--- WIPED and LATER it is the one at which the entry was found, beside that which its doom left, and at HALTED the one looked at last.
+-- WIPED and LATER it is the one at which the entry was found, beside that which its doom left, at HALTED the one looked at last, and at
+-- FETCHED the one that the closing left, doomed or not.
 abbrev pub epochs_of : (opened looked : ℕ) → Answer → List ℕ
 epochs_of opened looked (answer.Stored version) = undoomed_at Closed version ∷ []
 epochs_of opened looked (answer.Doomed version) = closed_and_doomed version ∷ []
@@ -44,6 +45,7 @@ epochs_of opened looked (answer.Busy first second) = epoch_number first.epoch �
 epochs_of opened looked (answer.Opened version) = opened ∷ []
 epochs_of opened looked (answer.Hit version bytes) = opened ∷ []
 epochs_of opened looked (answer.Halted bytes) = looked ∷ []
+epochs_of opened looked (answer.Fetched version bytes) = looked ∷ []
 epochs_of opened looked (answer.Part epoch bytes) = epoch_number epoch ∷ []
 epochs_of opened looked (answer.Purged epoch) = opened ∷ epoch_number epoch ∷ []
 epochs_of opened looked (answer.Wiped epoch) = opened ∷ epoch_number epoch ∷ []
@@ -58,6 +60,11 @@ pub record Shows (anchors : ℕ) (earlier : List Served) (s : Served) (a e : ℕ
   pub at : IsAt anchors earlier s a
   -- and its answer shows the epoch
   pub shown : Contains (epochs_of s.opened s.looked s.answer) e
+
+-- its answer says that the line began the version x; DIRECT does not say it
+abbrev pub MustHaveBegun : Request → Answer → ℕ → Type 0
+MustHaveBegun request (answer.Direct bytes) x = ⊥
+MustHaveBegun request a x = Began request a x
 
 -- the version that a line drew, which it then began
 pub record HasBegun (s : Served) : Type 0 where
@@ -92,22 +99,44 @@ pub record IsOffered {X : Type 0} (r : Run X) (s : Served) (url : List ℕ) (bod
   pub url_is : r.url (r.setting.slots + s.asked.number) ≡ url
   pub body_is : r.body (r.setting.slots + s.asked.number) ≡ bytes_of body
 
+-- 1 where it is so
+abbrev pub one_if : Bool → ℕ
+one_if b = cond b 1 0
+
+-- how often a line drew the version x, and how many versions it drew
+abbrev pub draws_of : ℕ → Served → ℕ
+draws_of x s = one_if (is_drawn x s.drew) + count_by (λ y. y == x) s.lost
+
+abbrev pub many_draws : Served → ℕ
+many_draws s = one_if (has_drawn s.drew) + length s.lost
+
 -- What the line s tells, with these before it, where v is what its worker knows.
 pub record Tells {X : Type 0} (r : Run X) (v : View X) (earlier : List Served) (s : Served) : Type 0 where
   -- the worker has seen each epoch that it shows
   pub shown : (a e : ℕ) → Shows r.setting.anchors earlier s a e → Contains v.seen (Stood a e)
   pub answers : IsAnswerTo s.asked.request s.answer  -- the answer is one that the request may get
   pub drew : s.drew ≢ None → offers s.asked.request ≡ true  -- only a line that offers a body draws a version
-  pub began : (x : ℕ) → Began s.asked.request s.answer x → HasBegun s  -- and it drew the version that it began
-  pub finished : (x : ℕ) → (s.answer ≡ answer.Stored x) ⊎ (s.answer ≡ answer.Doomed x) → HasFinished r.setting v earlier s x
+  -- and it drew the version that it began
+  pub began : (x : ℕ) → MustHaveBegun s.asked.request s.answer x → HasBegun s
+  -- only a `forward` loses tries, and each version that it drew in one has what it was lost to
+  pub none_lost : IsNoForward s.asked.request → s.lost ≡ []
+  pub lost : (x : ℕ) → Contains s.lost x → HasLost r v earlier s ⊎ HasNoUse v s x
+  -- it drew no more versions than it may make tries
+  pub few : many_draws s ≤ most_tries
+  -- FETCHED and DIRECT give the body that the line offers
+  pub own : (bytes : List ℕ) → GivesOwn s.answer bytes → (url : List ℕ) (body : Body) → Offers s.asked.request url body → bytes ≡ bytes_of body
+  -- FETCHED left its entry closed, doomed or not
+  pub fetched : (x : ℕ) (bytes : List ℕ) → s.answer ≡ answer.Fetched x bytes → (s.looked ≡ undoomed_at Closed x) ⊎ (s.looked ≡ closed_and_doomed x)
+  pub waited : (bytes : List ℕ) → s.answer ≡ answer.Waited bytes → HasWaited r v earlier s
+  pub finished : (x : ℕ) → TellsStored s.answer x ⊎ TellsStoredDoomed s.answer x → HasFinished r.setting v earlier s x
   pub gave_up : begun_by earlier s ≢ None → gives_up s.answer ≡ true → HasGivenUp r.setting.anchors v earlier s  -- one that writes an entry
   pub full : s.answer ≡ answer.Full → r.fits ≡ false  -- a slot was wanting
   pub large : s.answer ≡ answer.Large → IsLarge r earlier s  -- nor may the entry have as many slots as its body needs
   -- it may have as many, where its body was stored
-  pub small : (x : ℕ) → (s.answer ≡ answer.Stored x) ⊎ (s.answer ≡ answer.Doomed x) → IsSmall r earlier s
+  pub small : (x : ℕ) → TellsStored s.answer x ⊎ TellsStoredDoomed s.answer x → IsSmall r earlier s
   pub long : s.answer ≡ answer.LongUrl → IsLong r s
-  -- it comes wherever the URL is long
-  pub short : (url : List ℕ) (body : Body) → Offers s.asked.request url body → Fits earlier s.asked.request → r.room < 32 + length url
+  -- it comes wherever the URL is long, but at a `forward`, which is DIRECT then
+  pub short : IsNoForward s.asked.request → (url : List ℕ) (body : Body) → Offers s.asked.request url body → Fits earlier s.asked.request → r.room < 32 + length url
       → s.answer ≡ answer.LongUrl
   pub busy : (looked other : Word) → s.answer ≡ answer.Busy looked other → IsBusy r v earlier s looked other
   pub spent : (n : ℕ) → s.answer ≡ answer.Spent n → IsSpent v s n
@@ -119,9 +148,9 @@ pub record Tells {X : Type 0} (r : Run X) (v : View X) (earlier : List Served) (
   pub opened : (x : ℕ) → ComesIn s.asked.request s.answer x → HasOpened r v s
   pub hit : IsTrue r.tells → (x : ℕ) (bytes : List ℕ) → s.answer ≡ answer.Hit x bytes → HasHit r v s bytes
   pub other : IsTrue r.tells → s.answer ≡ answer.OtherUrl → HasOther r v earlier s
-  pub halted : (bytes : List ℕ) → s.answer ≡ answer.Halted bytes → IsAtStage Halted s.looked
+  pub halted : Speaks r s → (bytes : List ℕ) → s.answer ≡ answer.Halted bytes → IsAtStage Halted s.looked
   pub part : (e : Epoch) (bytes : List ℕ) → s.answer ≡ answer.Part e bytes → IsAtStage Appending (epoch_number e)
-  pub halted_version : (bytes : List ℕ) → s.answer ≡ answer.Halted bytes → IsOfOpened earlier s s.looked
+  pub halted_version : Speaks r s → (bytes : List ℕ) → s.answer ≡ answer.Halted bytes → IsOfOpened earlier s s.looked
   pub part_version : (e : Epoch) (bytes : List ℕ) → s.answer ≡ answer.Part e bytes → IsOfOpened earlier s (epoch_number e)
   pub purged : (e : Epoch) → TellsDoom s.answer e → HasPurged r v s e
   pub added : (count : ℕ) → s.answer ≡ answer.Added count → HasAdded r v earlier s count
@@ -132,20 +161,13 @@ pub record Tells {X : Type 0} (r : Run X) (v : View X) (earlier : List Served) (
   pub behind_other : (tab : ℕ) → ReadsBehind is_other_url earlier s tab → s.answer ≡ answer.OtherUrl
   pub behind_halted : (tab : ℕ) → ReadsBehind is_halted earlier s tab → s.answer ≡ answer.Halted []
 
--- whether a line drew the version x, and whether it drew one
-abbrev pub drew_version : ℕ → Served → Bool
-drew_version x s = is_drawn x s.drew
-
-abbrev pub drew_some : Served → Bool
-drew_some s = has_drawn s.drew
-
 -- The account of a worker that has the view v, and served these lines. Each draw, each deed and what is told belongs to one of them, or a
 -- deed to the end, once the worker is there.
 pub record Account {X : Type 0} (r : Run X) (v : View X) (served : List Served) (at_end : Bool) : Type 0 where
   -- it has seen the epochs of the opening
   pub opening : (a : ℕ) → a < r.setting.anchors → Contains v.seen (Stood a (opening_epoch r.setting a))
-  pub drawn : (x : ℕ) → drawn x v.trail ≡ count_by (drew_version x) served  -- a version was drawn as often as lines drew it
-  pub draws : draws v.trail ≡ count_by drew_some served  -- and one by as many lines as drew one
+  pub drawn : (x : ℕ) → drawn x v.trail ≡ sum_by (draws_of x) served  -- a version was drawn as often as lines drew it
+  pub draws : draws v.trail ≡ sum_by many_draws served  -- and as many as lines drew
   -- each deed is the worker's own, and has its line
   pub deeds : (d : Deed) → Contains v.deeds d → (d.pass ≡ v.pass) × HasLine r v d served at_end
   -- each line tells what it should

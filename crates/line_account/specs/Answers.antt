@@ -198,6 +198,14 @@ ReadAs (answer.ReadFault bytes) version = Unit {0}
 ReadAs answer.OtherUrl version = Unit {0}
 ReadAs _ version = ⊥
 
+-- of a line that forwarded; at WAITED with no byte it need not have opened one
+abbrev pub ForwardedAs : Answer → ℕ → Type 0
+ForwardedAs (answer.Hit told bytes) version = told ≡ version
+ForwardedAs (answer.Halted bytes) version = Unit {0}
+ForwardedAs (answer.ReadFault bytes) version = Unit {0}
+ForwardedAs (answer.Waited bytes) version = bytes ≢ []
+ForwardedAs _ version = ⊥
+
 abbrev pub ComesIn : Request → Answer → ℕ → Type 0
 ComesIn request a version = of_shape (shape_of request)
   where
@@ -205,6 +213,7 @@ ComesIn request a version = of_shape (shape_of request)
     of_shape (Shape.Stores url body durable) = ⊥
     of_shape (Shape.Reads url) = ReadAs a version
     of_shape (Shape.Purges url) = ⊥
+    of_shape (Shape.Forwards url body) = ForwardedAs a version
     of_shape (Shape.Begins tab url body) = ⊥
     of_shape (Shape.Opens tab url) = OpenedAs a version
     of_shape (Shape.WritesOn tab) = ⊥
@@ -296,6 +305,7 @@ pub record HasAdded {X : Type 0} (r : Run X) (v : View X) (earlier : List Served
 abbrev pub bytes_of_tab : List Served → Served → Request → List ℕ
 bytes_of_tab earlier s (More tab) = bytes_given tab (earlier then s)
 bytes_of_tab earlier s (Get url) = bytes_in s.answer
+bytes_of_tab earlier s (Forward url body) = bytes_in s.answer
 bytes_of_tab earlier s _ = []
 
 abbrev pub bytes_with : List Served → Served → List ℕ
@@ -356,4 +366,66 @@ Reads (answer.Part epoch bytes) = Unit {0}
 Reads (answer.End bytes) = Unit {0}
 Reads (answer.Halted bytes) = Unit {0}
 Reads (answer.ReadFault bytes) = Unit {0}
+Reads (answer.Waited bytes) = bytes ≢ []
 Reads _ = ⊥
+
+-- Forwarding.
+
+-- a request that forwards, and one that does not
+abbrev pub IsForward : Request → Type 0
+IsForward (Forward url body) = Unit {0}
+IsForward _ = ⊥
+
+abbrev pub IsNoForward : Request → Type 0
+IsNoForward (Forward url body) = ⊥
+IsNoForward _ = Unit {0}
+
+-- how many tries a `forward` may make
+abbrev pub most_tries : ℕ
+most_tries = 1000000
+
+-- the bytes are what a line that fetched gave
+abbrev pub GivesOwn : Answer → List ℕ → Type 0
+GivesOwn (answer.Fetched version given) bytes = given ≡ bytes
+GivesOwn (answer.Direct given) bytes = given ≡ bytes
+GivesOwn _ bytes = ⊥
+
+-- the run tells of bytes, or the line does not forward
+abbrev pub Speaks : {X : Type 0} → Run X → Served → Type 0
+Speaks r s = IsTrue r.tells ⊎ IsNoForward s.asked.request
+
+-- A try was lost: there was no entry at the anchor, and then the anchor was busy, by these two words.
+pub record HasLost {X : Type 0} (r : Run X) (v : View X) (earlier : List Served) (s : Served) : Type 0 where
+  pub forwards : IsForward s.asked.request
+  pub a : ℕ
+  pub at : IsAt r.setting.anchors earlier s a
+  pub absent : ℕ
+  pub vacant : IsAtStage Empty absent ⊎ IsAtStage Gone absent
+  pub seen : Contains v.seen (Stood a absent)
+  pub looked : Word
+  pub other : Word
+  pub order : absent ≤ epoch_number looked.epoch
+  pub looked_seen : Contains v.seen (Stood a (epoch_number looked.epoch))
+  pub other_seen : Contains v.seen (Stood a (epoch_number other.epoch))
+  pub busy : IsBusy r v earlier s looked other
+
+-- The version of a last try was drawn and could not be used: the anchor was in use since an entry is there that leaves or has another key, or no
+-- version was left.
+pub record HasNoUse {X : Type 0} (v : View X) (s : Served) (x : ℕ) : Type 0 where
+  pub forwards : IsForward s.asked.request
+  pub direct : is_direct s.answer ≡ true
+  pub drew : s.drew ≡ None
+  pub last : (rest : List ℕ) × (s.lost ≡ x ∷ rest)
+
+-- An entry was seen at the anchor that is being written, which the line itself did not begin.
+pub record SawGrowing {X : Type 0} (r : Run X) (v : View X) (earlier : List Served) (s : Served) : Type 0 where
+  pub a : ℕ
+  pub at : IsAt r.setting.anchors earlier s a
+  pub epoch : ℕ
+  pub growing : IsAtStage Taken epoch ⊎ IsAtStage Appending epoch
+  pub seen : Contains v.seen (Stood a epoch)
+  pub none : s.drew ≡ None
+
+-- WAITED: its last look was in vain for the one or the other
+abbrev pub HasWaited : {X : Type 0} → Run X → View X → List Served → Served → Type 0
+HasWaited r v earlier s = SawGrowing r v earlier s ⊎ HasLost r v earlier s

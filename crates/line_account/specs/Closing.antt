@@ -74,12 +74,12 @@ pub record IsSameLine (crew : List Worker) (P Q : List Served → Served → Typ
   -- with as many lines before them
   pub place : length p.earlier ≡ length q.earlier
 
--- how many of the lines offer a body
-abbrev pub offered_by : Worker → ℕ
-offered_by w = count_by (λ s. offers s.asked.request) w.served
+-- how many versions the lines drew
+abbrev pub drawn_by_lines : Worker → ℕ
+drawn_by_lines w = sum_by many_draws w.served
 
-abbrev pub offered : List Worker → ℕ
-offered crew = sum_by offered_by crew
+abbrev pub all_draws : List Worker → ℕ
+all_draws crew = sum_by drawn_by_lines crew
 
 -- a line began the version x at the anchor a
 abbrev pub BegunIn : {X : Type 0} → Run X → List Worker → (a x : ℕ) → Type 0
@@ -97,8 +97,8 @@ ShownIn r crew a e = LineIn crew (λ earlier s. Shows r.setting.anchors earlier 
 pub record Stores (anchors : ℕ) (earlier : List Served) (s : Served) (a x : ℕ) : Type 0 where
   -- the line writes the version there
   pub writes : Writes anchors earlier s a x
-  -- it printed STORED with it
-  pub printed : s.answer ≡ answer.Stored x
+  -- it printed STORED or FETCHED with it
+  pub printed : TellsStored s.answer x
 
 abbrev pub StoredIn : {X : Type 0} → Run X → List Worker → (a x : ℕ) → Type 0
 StoredIn r crew a x = LineIn crew (λ earlier s. Stores r.setting.anchors earlier s a x)

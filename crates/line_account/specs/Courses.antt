@@ -16,17 +16,13 @@ use Rattle.line_account.specs.Answers.{HasPart, Run}
 use Rattle.line_account.specs.Accounts.{HasHalted, Shows, Tells, drew_some, drew_version}
 use Rattle.line_account.specs.ScriptOrder.{◌then◌}
 
--- 1 where it is so
-abbrev pub one_if : Bool → ℕ
-one_if b = cond b 1 0
-
 -- What the line s adds, after these lines, where the worker had the view v before it and has w after it: it draws what it says, each new
 -- deed is its own, each epoch that it shows is not below what the worker had seen there, and of one version its stage does not fall, a
 -- version that it began is later than each that the worker had seen, and it tells what it should.
 pub record Adds {X : Type 0} (r : Run X) (v : View X) (earlier : List Served) (s : Served) (w : View X) : Type 0 where
   pub keeps : KnowsAll v w
-  pub drawn : (x : ℕ) → drawn x w.trail ≡ one_if (drew_version x s) + drawn x v.trail
-  pub draws : draws w.trail ≡ one_if (drew_some s) + draws v.trail
+  pub drawn : (x : ℕ) → drawn x w.trail ≡ draws_of x s + drawn x v.trail
+  pub draws : draws w.trail ≡ many_draws s + draws v.trail
   pub deeds : (d : Deed) → Contains w.deeds d → Contains v.deeds d ⊎ ((d.pass ≡ v.pass) × IsDeedOf r w d earlier s)
   pub fresh : (a e : ℕ) → Shows r.setting.anchors earlier s a e → seen_at a v.seen ≤ e
   -- of one version the stage that it shows is one to which those lead that the worker had seen there

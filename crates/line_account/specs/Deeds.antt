@@ -21,7 +21,7 @@ use Rattle.line_account.specs.Answers.{Run, TellsDoom}
 use Rattle.lock_word.specs.declared.stage.Stage.TheVariants.{Appending, Closed, Freeing, Gone, Halted, Taken}
 use Rattle.line_account.specs.EpochNames.{IsAtStage, IsDoomed, IsUndoomed}
 
--- a request that comes to the entry of a URL to read or to purge it
+-- a request that comes to the entry of a URL to read, to forward or to purge it
 abbrev pub Comes : Request → List ℕ → Type 0
 Comes request url = of_shape (shape_of request)
   where
@@ -29,6 +29,7 @@ Comes request url = of_shape (shape_of request)
     of_shape (Shape.Stores u body durable) = ⊥
     of_shape (Shape.Reads u) = u ≡ url
     of_shape (Shape.Purges u) = u ≡ url
+    of_shape (Shape.Forwards u body) = u ≡ url
     of_shape (Shape.Begins tab u body) = ⊥
     of_shape (Shape.Opens tab u) = u ≡ url
     of_shape (Shape.WritesOn tab) = ⊥
@@ -57,11 +58,19 @@ BeganAndEnded answer.Large x = Unit {0}
 BeganAndEnded answer.Fault x = Unit {0}
 BeganAndEnded _ x = ⊥
 
--- the answers to lines that began a version
+-- and to one that forwarded: where it began an entry of the version x, it wrote it to its end or gave it up
+abbrev pub BeganForward : Answer → ℕ → Type 0
+BeganForward (answer.Fetched version bytes) x = version ≡ x
+BeganForward (answer.Direct bytes) x = Unit {0}
+BeganForward _ x = ⊥
+
+-- the answers to lines that began a version; DIRECT is one also where none was begun
 abbrev pub PrintsBegun : Answer → Type 0
 PrintsBegun (answer.Begun version) = Unit {0}
 PrintsBegun (answer.Stored version) = Unit {0}
 PrintsBegun (answer.Doomed version) = Unit {0}
+PrintsBegun (answer.Fetched version bytes) = Unit {0}
+PrintsBegun (answer.Direct bytes) = Unit {0}
 PrintsBegun answer.Full = Unit {0}
 PrintsBegun answer.Large = Unit {0}
 PrintsBegun answer.Fault = Unit {0}
@@ -75,6 +84,7 @@ Began request a x = of_shape (shape_of request)
     of_shape (Shape.Stores url body durable) = BeganAndEnded a x
     of_shape (Shape.Reads url) = ⊥
     of_shape (Shape.Purges url) = ⊥
+    of_shape (Shape.Forwards url body) = BeganForward a x
     of_shape (Shape.Begins tab url body) = BeganOnTab a x
     of_shape (Shape.Opens tab url) = ⊥
     of_shape (Shape.WritesOn tab) = ⊥
@@ -96,6 +106,11 @@ TellsEnded (answer.Stored version) x = version ≡ x
 TellsEnded (answer.Doomed version) x = version ≡ x
 TellsEnded _ x = ⊥
 
+-- the answer to one that forwarded which tells its version
+abbrev pub TellsForwarded : Answer → ℕ → Type 0
+TellsForwarded (answer.Fetched version bytes) x = version ≡ x
+TellsForwarded _ x = ⊥
+
 -- the answers to a line that offers a body which tell that it began the version x
 abbrev pub TellsBegun : Request → Answer → ℕ → Type 0
 TellsBegun request a x = of_shape (shape_of request)
@@ -104,6 +119,7 @@ TellsBegun request a x = of_shape (shape_of request)
     of_shape (Shape.Stores url body durable) = TellsEnded a x
     of_shape (Shape.Reads url) = ⊥
     of_shape (Shape.Purges url) = ⊥
+    of_shape (Shape.Forwards url body) = TellsForwarded a x
     of_shape (Shape.Begins tab url body) = BeganOnTab a x
     of_shape (Shape.Opens tab url) = ⊥
     of_shape (Shape.WritesOn tab) = ⊥
@@ -117,12 +133,14 @@ pub record PrintsBegunVersion (anchors : ℕ) (s : Served) (a x : ℕ) : Type 0 
   -- its answer tells that it began the version
   pub told : TellsBegun s.asked.request s.answer x
 
--- The answers to a line that came so far that it needed slots, and may have had to evict an entry for one: STORED, DOOMED, ADDED, FULL,
--- LARGE and FAULT. A line that printed BUSY, SPENT, LONGURL or TAB was refused before.
+-- The answers to a line that came so far that it needed slots, and may have had to evict an entry for one: STORED, DOOMED, FETCHED, DIRECT,
+-- ADDED, FULL, LARGE and FAULT. A line that printed BUSY, SPENT, LONGURL or TAB was refused before.
 abbrev pub NeededSlots : Answer → Type 0
 NeededSlots (answer.Stored version) = Unit {0}
 NeededSlots (answer.Doomed version) = Unit {0}
 NeededSlots (answer.Added count) = Unit {0}
+NeededSlots (answer.Fetched version bytes) = Unit {0}
+NeededSlots (answer.Direct bytes) = Unit {0}
 NeededSlots answer.Full = Unit {0}
 NeededSlots answer.Large = Unit {0}
 NeededSlots answer.Fault = Unit {0}
@@ -136,6 +154,7 @@ MayEvict request a = of_shape (shape_of request)
     of_shape (Shape.Stores url body durable) = NeededSlots a
     of_shape (Shape.Reads url) = ⊥
     of_shape (Shape.Purges url) = ⊥
+    of_shape (Shape.Forwards url body) = NeededSlots a
     of_shape (Shape.Begins tab url body) = ⊥
     of_shape (Shape.Opens tab url) = ⊥
     of_shape (Shape.WritesOn tab) = NeededSlots a
@@ -160,16 +179,27 @@ pub record Grows {X : Type 0} (k : Setting X) (v : View X) (earlier : List Serve
   pub writes : Writes k.anchors earlier s a x
   pub named : IsNamed k v a x writes.first
 
+-- the answers to a line that left an entry of the version x whole, where it is not doomed and where it is; FETCHED does not tell which
+abbrev pub TellsStored : Answer → ℕ → Type 0
+TellsStored (answer.Stored version) x = version ≡ x
+TellsStored (answer.Fetched version bytes) x = version ≡ x
+TellsStored _ x = ⊥
+
+abbrev pub TellsStoredDoomed : Answer → ℕ → Type 0
+TellsStoredDoomed (answer.Doomed version) x = version ≡ x
+TellsStoredDoomed (answer.Fetched version bytes) x = version ≡ x
+TellsStoredDoomed _ x = ⊥
+
 -- the answer to a line that left its entry whole, at this epoch
 pub record Finishes (a : Answer) (e : ℕ) : Type 0 where
-  pub stored : IsUndoomed e → a ≡ answer.Stored (version_of e)
-  pub doomed : IsDoomed e → a ≡ answer.Doomed (version_of e)
+  pub stored : IsUndoomed e → TellsStored a (version_of e)
+  pub doomed : IsDoomed e → TellsStoredDoomed a (version_of e)
 
 -- a line that gave up its writing of the version x at the anchor a
 pub record Halts (anchors : ℕ) (earlier : List Served) (s : Served) (a x : ℕ) : Type 0 where
   -- the line writes the version there
   pub writes : Writes anchors earlier s a x
-  -- it printed FULL, LARGE, FAULT or DROPPED
+  -- it printed FULL, LARGE, FAULT, DIRECT or DROPPED
   pub gave_up : gives_up s.answer ≡ true
 
 -- a line that purged or wiped the entry at the anchor a, and told that it left this epoch

@@ -12,15 +12,17 @@ use Rattle.script_text.specs.declared.request.Request.{Request}
 use Rattle.script_text.specs.declared.request.Request.TheVariants.{Add, CloseTab, DropTab, End, More}
 use Rattle.line_account.specs.ScriptOrder.{◌followed_by◌, ◌then◌}
 
--- A line that was served, and its answer. Three things that are not printed stand beside them: the version that the line drew, if it
--- drew one, and the epochs at which it opened an entry, or found the one that it purged, and looked at one last.
+-- A line that was served, and its answer. Four things that are not printed stand beside them: the version that the line drew, if it
+-- drew one, those of tries that it lost, and the epochs at which it opened an entry, or found the one that it purged, and looked at one last.
 pub record Served : Type 0 where
   -- the line of the script: its number, its worker and its request
   pub asked : Line
   -- what it was answered
   pub answer : Answer
-  -- the version that it drew, if it drew one
+  -- the version that it drew, if it drew one; of a `forward` line the version of the entry that it began, if it began one
   pub drew : Option ℕ
+  -- the versions of the tries of a `forward` line that were lost, since another worker came first or none could be used
+  pub lost : List ℕ
   -- the epoch at which it opened an entry, or found the one that it purged, as a number
   pub opened : ℕ
   -- the epoch at which it looked at an entry last
@@ -51,6 +53,11 @@ is_refused answer.Large = true
 is_refused answer.Fault = true
 is_refused _ = false
 
+-- the answer to a `forward` whose response was fetched and not stored
+abbrev pub is_direct : Answer → Bool
+is_direct (answer.Direct bytes) = true
+is_direct _ = false
+
 abbrev pub is_finished : Answer → Bool
 is_finished (answer.Stored version) = true
 is_finished (answer.Doomed version) = true
@@ -78,6 +85,7 @@ begins t request a = of_shape (shape_of request)
     of_shape (Shape.Stores url body durable) = false
     of_shape (Shape.Reads url) = false
     of_shape (Shape.Purges url) = false
+    of_shape (Shape.Forwards url body) = false
     of_shape (Shape.Begins u url body) = (u == t) && is_begun a
     of_shape (Shape.Opens u url) = false
     of_shape (Shape.WritesOn u) = false
@@ -98,6 +106,7 @@ opens t request a = of_shape (shape_of request)
     of_shape (Shape.Stores url body durable) = false
     of_shape (Shape.Reads url) = false
     of_shape (Shape.Purges url) = false
+    of_shape (Shape.Forwards url body) = false
     of_shape (Shape.Begins u url body) = false
     of_shape (Shape.Opens u url) = (u == t) && is_opened a
     of_shape (Shape.WritesOn u) = false
@@ -134,6 +143,7 @@ url_at earlier request = of_shape (shape_of request)
     of_shape (Shape.Stores url body durable) = Some url
     of_shape (Shape.Reads url) = Some url
     of_shape (Shape.Purges url) = Some url
+    of_shape (Shape.Forwards url body) = Some url
     of_shape (Shape.Begins tab url body) = Some url
     of_shape (Shape.Opens tab url) = Some url
     of_shape (Shape.WritesOn tab) = url_named (writing tab earlier)
@@ -161,6 +171,7 @@ begun_of earlier s request = of_shape (shape_of request)
     of_shape (Shape.Stores url body durable) = Some s
     of_shape (Shape.Reads url) = None
     of_shape (Shape.Purges url) = None
+    of_shape (Shape.Forwards url body) = cond (has_drawn s.drew) (Some s) None
     of_shape (Shape.Begins tab url body) = Some s
     of_shape (Shape.Opens tab url) = None
     of_shape (Shape.WritesOn tab) = writing tab earlier
@@ -187,7 +198,7 @@ Writes anchors earlier s a x = IsWritingOf anchors (begun_by earlier s) a x
 
 -- the answer to a line that gave its writing up
 abbrev pub gives_up : Answer → Bool
-gives_up a = is_refused a || is_dropped a
+gives_up a = is_refused a || is_dropped a || is_direct a
 
 -- the line that opened what a line reads: it does so itself, or its tab's first line did
 abbrev pub opened_of : List Served → Served → Request → Option Served
@@ -197,6 +208,7 @@ opened_of earlier s request = of_shape (shape_of request)
     of_shape (Shape.Stores url body durable) = None
     of_shape (Shape.Reads url) = Some s
     of_shape (Shape.Purges url) = None
+    of_shape (Shape.Forwards url body) = Some s
     of_shape (Shape.Begins tab url body) = None
     of_shape (Shape.Opens tab url) = Some s
     of_shape (Shape.WritesOn tab) = None
@@ -214,6 +226,7 @@ Fits earlier request = of_shape (shape_of request)
     of_shape (Shape.Stores url body durable) = Unit {0}
     of_shape (Shape.Reads url) = Unit {0}
     of_shape (Shape.Purges url) = Unit {0}
+    of_shape (Shape.Forwards url body) = Unit {0}
     of_shape (Shape.Begins tab url body) = (writing tab earlier ≡ None) × (reading tab earlier ≡ None)
     of_shape (Shape.Opens tab url) = (writing tab earlier ≡ None) × (reading tab earlier ≡ None)
     of_shape (Shape.WritesOn tab) = writing tab earlier ≢ None
@@ -233,6 +246,9 @@ bytes_in (answer.Part epoch bytes) = bytes
 bytes_in (answer.End bytes) = bytes
 bytes_in (answer.Halted bytes) = bytes
 bytes_in (answer.ReadFault bytes) = bytes
+bytes_in (answer.Waited bytes) = bytes
+bytes_in (answer.Fetched version bytes) = bytes
+bytes_in (answer.Direct bytes) = bytes
 bytes_in _ = []
 
 abbrev pub given_by : ℕ → Request → Answer → List ℕ

@@ -26,16 +26,18 @@ printed _ = []
 abbrev pub version_alone : Answer → Option ℕ
 version_alone (answer.Stored version) = Some version
 version_alone (answer.Doomed version) = Some version
+version_alone (answer.Fetched version bytes) = Some version
 version_alone (answer.Begun version) = Some version
 version_alone (answer.Opened version) = Some version
 version_alone (answer.Hit version bytes) = Some version
 version_alone _ = None
 
--- What an answer counts as for later lines: STORED as the epoch of the version at CLOSED, DOOMED as that with the doom bit, OPEN and HIT
+-- What an answer counts as for later lines: STORED and FETCHED as the epoch of the version at CLOSED, DOOMED as that with the doom bit, OPEN and HIT
 -- as that at APPENDING, and BEGUN as that at TAKEN.
 abbrev pub counts_as : Answer → List ℕ
 counts_as (answer.Stored version) = undoomed_at Closed version ∷ []
 counts_as (answer.Doomed version) = closed_and_doomed version ∷ []
+counts_as (answer.Fetched version bytes) = undoomed_at Closed version ∷ []
 counts_as (answer.Opened version) = undoomed_at Appending version ∷ []
 counts_as (answer.Hit version bytes) = undoomed_at Appending version ∷ []
 counts_as (answer.Begun version) = undoomed_at Taken version ∷ []
@@ -84,6 +86,7 @@ FindsOrStores _ x = ⊥
 abbrev pub epochs_told : Answer → List ℕ
 epochs_told (answer.Stored version) = undoomed_at Closed version ∷ []
 epochs_told (answer.Doomed version) = closed_and_doomed version ∷ []
+epochs_told (answer.Fetched version bytes) = undoomed_at Closed version ∷ []
 epochs_told a = printed a
 
 -- What the answer a prints is not below the epoch e, which was shown before.

@@ -63,10 +63,16 @@ HadEntry r a = IsAtStage Closed (opening_epoch r.setting a)
 abbrev pub old_offer : {X : Type 0} → Run X → ℕ → ℕ
 old_offer r a = word_in r.setting r.setting.words (Beside Offer a)
 
--- a line that gets a URL of the anchor a printed HIT with the version x
+-- the request reads the response of the URL whole, and stores nothing or what it fetches
+abbrev pub GetsOrForwards : Request → List ℕ → Type 0
+GetsOrForwards (Get u) url = u ≡ url
+GetsOrForwards (Forward u body) url = u ≡ url
+GetsOrForwards _ url = ⊥
+
+-- a line that gets or forwards a URL of the anchor a printed HIT with the version x
 pub record PrintsHit (anchors : ℕ) (s : Served) (a x : ℕ) (url bytes : List ℕ) : Type 0 where
-  -- the line gets the URL
-  pub request : s.asked.request ≡ Get url
+  -- the line gets or forwards the URL
+  pub request : GetsOrForwards s.asked.request url
   -- whose anchor it is
   pub anchor : a ≡ anchor_of (key_of url) anchors
   -- and printed HIT with the version and the bytes
@@ -101,6 +107,7 @@ pub record IsBodyAsPrinted {X : Type 0} (r : Run X) (crew : List Worker) (a x : 
 abbrev pub OffersAtOnce : Request → Type 0
 OffersAtOnce (Put url body) = Unit {0}
 OffersAtOnce (Save url body) = Unit {0}
+OffersAtOnce (Forward url body) = Unit {0}
 OffersAtOnce _ = ⊥
 
 -- they are the body of the entry that the anchor had at the opening, and the URL is its URL
@@ -203,12 +210,28 @@ pub record PrintsBusy (anchors : ℕ) (earlier : List Served) (s : Served) (a : 
   -- it printed BUSY with the words
   pub printed : s.answer ≡ answer.Busy looked other
 
--- another worker than the one numbered j opens, gets, purges or wipes a URL of the anchor a
+-- another worker than the one numbered j opens, gets, forwards, purges or wipes a URL of the anchor a
 pub record AnotherComes {X : Type 0} (r : Run X) (crew : List Worker) (j a : ℕ) : Type 0 where
   -- a line that opens, gets, purges or wipes such a URL
   pub comes : LineIn crew (λ earlier s. ComesTo r.setting.anchors s.asked.request a)
   -- of another worker
   pub another : comes.j ≢ j
+
+-- a line at the anchor a printed WAITED
+pub record PrintsWaited (anchors : ℕ) (earlier : List Served) (s : Served) (a : ℕ) : Type 0 where
+  -- the line is at work there
+  pub at : IsAt anchors earlier s a
+  -- with these bytes
+  pub bytes : List ℕ
+  -- it printed WAITED
+  pub printed : s.answer ≡ answer.Waited bytes
+
+-- a line names a URL of the anchor a, which is another one than that of the worker numbered j with so many lines before it
+pub record AnotherLineNames {X : Type 0} (r : Run X) (crew : List Worker) (j place a : ℕ) : Type 0 where
+  -- a line that names such a URL
+  pub names : LineIn crew (λ earlier s. IsAnchorOf r.setting.anchors (url_in s.asked.request) a)
+  -- of another worker, or at another place
+  pub another : (names.j ≢ j) ⊎ (length names.earlier ≢ place)
 
 -- Refusals.
 
@@ -229,8 +252,8 @@ pub record PrintsEnded (earlier : List Served) (s : Served) (first : Served) : T
   pub begun_is : begun_by earlier s ≡ Some first
   -- with some version
   pub version : ℕ
-  -- it printed STORED or DOOMED
-  pub printed : (s.answer ≡ answer.Stored version) ⊎ (s.answer ≡ answer.Doomed version)
+  -- it printed STORED, DOOMED or FETCHED
+  pub printed : TellsStored s.answer version ⊎ TellsStoredDoomed s.answer version
 
 -- BUSY: its words are the same, and neither vacant nor idle; or the first is one of these, and they differ. The epoch does not fall.
 pub record HasBusyWords (looked other : Word) : Type 0 where
@@ -298,7 +321,7 @@ pub record AreFirstOnes {X : Type 0} (r : Run X) (crew : List Worker) (a : Answe
 
 -- a line printed STORED or DOOMED with the version x
 abbrev pub PrintsFinished : Served → ℕ → Type 0
-PrintsFinished s x = (s.answer ≡ answer.Stored x) ⊎ (s.answer ≡ answer.Doomed x)
+PrintsFinished s x = TellsStored s.answer x ⊎ TellsStoredDoomed s.answer x
 
 -- a line of the writing of the version x at the anchor a printed so
 pub record Ends (anchors : ℕ) (earlier : List Served) (s : Served) (a x : ℕ) : Type 0 where

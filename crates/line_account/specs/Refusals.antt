@@ -17,7 +17,7 @@ use Rattle.line_account.specs.Order.{FindsEntry}
 use Rattle.line_account.specs.Printed.{AnotherComes, EndsBegun, HasBusyWords, HasOtherUrl, NeedsTooMany, PrintsAdded, PrintsEnded}
 use Rattle.line_account.specs.Printed.{PrintsBusy, PrintsLarge, PrintsOther, PrintsReaders}
 use Rattle.line_account.specs.Requests.{IsAnswerTo}
-use Rattle.line_account.specs.Scripts.{offering}
+use Rattle.plain_model.specs.Weights.{weights}
 use Rattle.lock_word.specs.declared.stage.Stage.TheVariants.{Appending}
 use Rattle.line_account.specs.EpochNames.{IsAtStage}
 
@@ -33,9 +33,9 @@ module _ {X : Type 0} (r : Run X) (script : List Line) (crew : List Worker) wher
     pub tab : (p : LineIn crew Any) → ((p.served.answer ≡ answer.Tab) ↔ ¬ Fits p.earlier p.served.asked.request)
     -- LONGURL comes only where a URL leaves no room for its metadata
     pub long : (p : LineIn crew (λ earlier s. s.answer ≡ answer.LongUrl)) → IsLong r p.served
-    -- and it comes wherever a body is offered under such a URL, on a tab that is as the request needs it
+    -- and it comes wherever a body is offered under such a URL, but by a `forward`, on a tab that is as the request needs it
     pub short : (url : List ℕ) (body : Body)
-        → (p : LineIn crew (λ earlier s. Offers s.asked.request url body × Fits earlier s.asked.request)) → r.room < 32 + length url
+        → (p : LineIn crew (λ earlier s. Offers s.asked.request url body × Fits earlier s.asked.request × IsNoForward s.asked.request)) → r.room < 32 + length url
         → p.served.answer ≡ answer.LongUrl
     -- the count of ADDED is what was asked for, or what the body had left
     pub added : (first : Served) (url : List ℕ) (body : Body) (tab asked count : ℕ)
@@ -57,10 +57,10 @@ module _ {X : Type 0} (r : Run X) (script : List Line) (crew : List Worker) wher
     pub counted : (a : ℕ) (looked other : Word) → (p : LineIn crew (λ earlier s. PrintsBusy r.setting.anchors earlier s a looked other))
         → AreCounted (length crew) (readers_at r.setting.anchors p.earlier a) looked.readers
         × AreCounted (length crew) (readers_at r.setting.anchors p.earlier a) other.readers
-    -- the number of SPENT is at least the greatest version, and at most the counter of the opening and the number of the other lines of the
-    -- script that offer a body
+    -- the number of SPENT is at least the greatest version, and at most the counter of the opening and the weights of the other lines of the
+    -- script that offer a body; that of its own line is 1
     pub spent : (n : ℕ) → LineIn crew (λ earlier s. s.answer ≡ answer.Spent n)
-        → (version_limit ≤ n) × (n < opening_counter r.setting + offering script)
+        → (version_limit ≤ n) × (n < opening_counter r.setting + weights r.setting.anchors script)
     -- LARGE comes only where the body of the line, or of the line that began its tab's writing, needs more slots than an entry may have
     pub large : (first : Served) (url : List ℕ) (body : Body) → LineIn crew (λ earlier s. PrintsLarge earlier s first)
         → Offers first.asked.request url body → NeedsTooMany r url body
@@ -73,3 +73,8 @@ module _ {X : Type 0} (r : Run X) (script : List Line) (crew : List Worker) wher
     pub other : IsTrue r.tells → (url : List ℕ) → LineIn crew (λ earlier s. PrintsOther earlier s url) → HasOtherUrl r crew url
     -- the cause of MISS and NONE is that of the epoch and the key that it prints, for the URL of the line
     pub cause : (cause : Cause) → (p : LineIn crew (λ earlier s. Refuses s.answer cause)) → IsCauseOf p.served (epoch_in cause) cause
+    -- the bytes of FETCHED and DIRECT are the body that the line offers
+    pub own : (bytes url : List ℕ) (body : Body) → (p : LineIn crew (λ earlier s. GivesOwn s.answer bytes)) → Offers p.served.asked.request url body
+        → bytes ≡ bytes_of body
+    -- WAITED comes only where another line names a URL of the anchor
+    pub waited : (a : ℕ) → (p : LineIn crew (λ earlier s. PrintsWaited r.setting.anchors earlier s a)) → AnotherLineNames r crew p.j (length p.earlier) a

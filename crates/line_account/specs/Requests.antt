@@ -26,6 +26,16 @@ AnswersGet answer.OtherUrl = Unit {0}
 AnswersGet (answer.Miss cause) = Unit {0}
 AnswersGet _ = ⊥
 
+-- a response that is forwarded
+abbrev pub AnswersForward : Answer → Type 0
+AnswersForward (answer.Hit version bytes) = Unit {0}
+AnswersForward (answer.Fetched version bytes) = Unit {0}
+AnswersForward (answer.Direct bytes) = Unit {0}
+AnswersForward (answer.Waited bytes) = Unit {0}
+AnswersForward (answer.Halted bytes) = Unit {0}
+AnswersForward (answer.ReadFault bytes) = Unit {0}
+AnswersForward _ = ⊥
+
 abbrev pub AnswersPurge : Answer → Type 0
 AnswersPurge (answer.Purged epoch) = Unit {0}
 AnswersPurge (answer.NoEntry cause) = Unit {0}
@@ -104,6 +114,7 @@ IsAnswerTo (Save url body) a = AnswersPut a
 IsAnswerTo (Get url) a = AnswersGet a
 IsAnswerTo (Purge url) a = AnswersPurge a
 IsAnswerTo (Wipe url) a = AnswersWipe a
+IsAnswerTo (Forward url body) a = AnswersForward a
 IsAnswerTo (Begin tab url body) a = AnswersBegin a
 IsAnswerTo (Add tab count) a = AnswersAdd a
 IsAnswerTo (End tab) a = AnswersEnd a

@@ -17,6 +17,11 @@ told_stored (answer.Stored version) = version ∷ []
 told_stored (answer.Doomed version) = version ∷ []
 told_stored other = []
 
+-- and of one that was forwarded
+abbrev pub told_fetched : Answer → List ℕ
+told_fetched (answer.Fetched version bytes) = version ∷ []
+told_fetched other = []
+
 -- the version that a line begins, as its answer tells it
 abbrev pub begun_by : Request → Answer → List ℕ
 begun_by request a = of_shape (shape_of request)
@@ -25,6 +30,7 @@ begun_by request a = of_shape (shape_of request)
     of_shape (Shape.Stores url body durable) = told_stored a
     of_shape (Shape.Reads url) = []
     of_shape (Shape.Purges url) = []
+    of_shape (Shape.Forwards url body) = told_fetched a
     of_shape (Shape.Begins tab url body) = told_begun a
     of_shape (Shape.Opens tab url) = []
     of_shape (Shape.WritesOn tab) = []

@@ -32,6 +32,7 @@ need_at s anchor request = of_shape (shape_of request)
     of_shape (Shape.Stores url made durable) = need_if_at s anchor url (bytes_of made)
     of_shape (Shape.Reads url) = 0
     of_shape (Shape.Purges url) = 0
+    of_shape (Shape.Forwards url body) = need_if_at s anchor url (bytes_of body)
     of_shape (Shape.Begins tab url made) = need_if_at s anchor url (bytes_of made)
     of_shape (Shape.Opens tab url) = 0
     of_shape (Shape.WritesOn tab) = 0

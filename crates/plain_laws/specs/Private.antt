@@ -35,6 +35,7 @@ takes tab request = of_shape (shape_of request)
     of_shape (Shape.Stores url made durable) = false
     of_shape (Shape.Reads url) = false
     of_shape (Shape.Purges url) = false
+    of_shape (Shape.Forwards url body) = false
     of_shape (Shape.Begins on url made) = on == tab
     of_shape (Shape.Opens on url) = on == tab
     of_shape (Shape.WritesOn on) = false
@@ -57,6 +58,7 @@ is_of s anchors tabs request = of_shape (shape_of request)
     of_shape (Shape.Stores url made durable) = anchors (url_anchor s url)
     of_shape (Shape.Reads url) = anchors (url_anchor s url)
     of_shape (Shape.Purges url) = anchors (url_anchor s url)
+    of_shape (Shape.Forwards url body) = anchors (url_anchor s url)
     of_shape (Shape.Begins tab url made) = tabs tab
     of_shape (Shape.Opens tab url) = tabs tab
     of_shape (Shape.WritesOn tab) = tabs tab

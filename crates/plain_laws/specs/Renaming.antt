@@ -38,6 +38,7 @@ renamed_cause rename (OtherKey epoch key) = OtherKey (renamed_epoch rename epoch
 abbrev pub renamed : (ℕ → ℕ) → Answer → Answer
 renamed rename (answer.Stored version) = answer.Stored (rename version)
 renamed rename (answer.Doomed version) = answer.Doomed (rename version)
+renamed rename (answer.Fetched version bytes) = answer.Fetched (rename version) bytes
 renamed rename (answer.Busy looked found) = answer.Busy (renamed_word rename looked) (renamed_word rename found)
 renamed rename (answer.Hit version bytes) = answer.Hit (rename version) bytes
 renamed rename (answer.Part epoch bytes) = answer.Part (renamed_epoch rename epoch) bytes

@@ -35,6 +35,7 @@ module _ {C O : Type 0} (tells : Bool) (state : C → CellState) (offers : O →
       of_shape (Shape.Stores url body durable) = IsUrlOutside url
       of_shape (Shape.Reads url) = IsUrlOutside url
       of_shape (Shape.Purges url) = IsUrlOutside url
+      of_shape (Shape.Forwards url body) = IsUrlOutside url
       of_shape (Shape.Begins t url body) = IsOtherTab t × IsUrlOutside url
       of_shape (Shape.Opens t url) = IsOtherTab t × IsUrlOutside url
       of_shape (Shape.WritesOn t) = IsOtherTab t

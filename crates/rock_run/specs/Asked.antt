@@ -13,6 +13,7 @@ IsAsked request = of_shape (shape_of request)
     of_shape (Shape.Stores url body durable) = IsUrl url
     of_shape (Shape.Reads url) = IsUrl url
     of_shape (Shape.Purges url) = IsUrl url
+    of_shape (Shape.Forwards url body) = IsUrl url
     of_shape (Shape.Begins tab url body) = (tab ≤ 6) × IsUrl url
     of_shape (Shape.Opens tab url) = (tab ≤ 6) × IsUrl url
     of_shape (Shape.WritesOn tab) = tab ≤ 6

@@ -25,6 +25,7 @@ offered_in request = of_shape (shape_of request)
     of_shape (Shape.Stores url body durable) = Some record { url = url; body = body }
     of_shape (Shape.Reads url) = None
     of_shape (Shape.Purges url) = None
+    of_shape (Shape.Forwards url body) = Some record { url = url; body = body }
     of_shape (Shape.Begins tab url body) = Some record { url = url; body = body }
     of_shape (Shape.Opens tab url) = None
     of_shape (Shape.WritesOn tab) = None

@@ -30,8 +30,8 @@ pub record OpensWithRoom (files : Files) (name : List ℕ) (slot anchors : ℕ) 
   pub opened : IsOpened slot images anchors plain
   -- the slots suffice for the script
   pub slots : FitsInto slot anchors images script
-  -- and so do the versions: each line that offers a body may begin one
-  pub versions : plain.counter + count_by (λ line. offers_body line.request) script ≤ 4294901760
+  -- and so do the versions: each line that offers a body may draw as many as it weighs
+  pub versions : plain.counter + weights anchors script ≤ 4294901760
 
 -- only lines of this worker name a URL of the anchor, and one of them does
 abbrev pub is_own_anchor : Setting → List Line → (worker anchor : ℕ) → Bool

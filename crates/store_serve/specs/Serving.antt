@@ -33,6 +33,7 @@ module _ {C O : Type 0} (tells : Bool) (state : C → CellState) (offers : O →
       of_shape (Shape.Stores url body durable) = IsOffered tells state offers s (offer_of number) url body
       of_shape (Shape.Reads url) = IsUrl url
       of_shape (Shape.Purges url) = IsUrl url
+      of_shape (Shape.Forwards url body) = IsOffered tells state offers s (offer_of number) url body
       of_shape (Shape.Begins t url body) = (t < whole_tab) × IsOffered tells state offers s (offer_of number) url body
       of_shape (Shape.Opens t url) = (t < whole_tab) × IsUrl url
       of_shape (Shape.WritesOn t) = t < whole_tab

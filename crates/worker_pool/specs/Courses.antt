@@ -38,6 +38,7 @@ IsServed request = of_shape (shape_of request)
     of_shape (Shape.Stores url body durable) = Unit {0}
     of_shape (Shape.Reads url) = Unit {0}
     of_shape (Shape.Purges url) = Unit {0}
+    of_shape (Shape.Forwards url body) = Unit {0}
     of_shape (Shape.Begins tab url body) = Unit {0}
     of_shape (Shape.Opens tab url) = Unit {0}
     of_shape (Shape.WritesOn tab) = Unit {0}
