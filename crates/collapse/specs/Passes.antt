@@ -8,6 +8,9 @@ use Rattle.store_rule.specs.declared.store.Pass.{Pass}
 use Rattle.store_rule.specs.declared.store.Store.{Store}
 use Rattle.store_rule.specs.Ground.{Offers}
 use Rattle.store_rule.specs.Passes.{IsOf, hand, view}
+use Rattle.collapse.specs.declared.answer.Forwarded.{Forwarded}
+use Rattle.collapse.specs.declared.answer.Forwarded.TheVariants.{Direct, FetchFault, Fetched, SinkFault}
+use Rattle.collapse.specs.declared.answer.Why.TheVariants.{Write}
 
 -- The pass is of the store still. Every tab but this and the inner one is as it was, with the word that it left and what it works on; so are
 -- the places and the cells that the pass has out.
@@ -18,3 +21,11 @@ pub record FollowsForward {C O : Type 0} (tells : Bool) (state : C → CellState
   pub places : hand q ≡ hand p
   pub desks : (j : ℕ) → j ≢ t → j ≢ inner → SameDesk p.desks q.desks j
   pub cells : q.cells ≡ p.cells
+
+-- Where no entry was begun, the place where the next search for an entry to evict begins is as it was.
+abbrev pub StaysUnlessWritten : Forwarded → (hand hand_after : ℕ) → Type 0
+StaysUnlessWritten (Fetched version) hand hand_after = Unit {0}
+StaysUnlessWritten (Direct (Write fault)) hand hand_after = Unit {0}
+StaysUnlessWritten FetchFault hand hand_after = Unit {0}
+StaysUnlessWritten SinkFault hand hand_after = Unit {0}
+StaysUnlessWritten _ hand hand_after = hand_after ≡ hand

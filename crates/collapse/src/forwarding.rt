@@ -2,7 +2,7 @@
 ghost use Rattle.std.specs.Prelude.{IsTrue, length, ◌<◌, ◌≡◌};
 ghost use Rattle.collapse.specs.Faults.{FetcherAt, SinkAt, StationAt};
 ghost use Rattle.collapse.specs.Forwarding.{FailsToFetch, FailsToRead, FailsToSend, Fetches, FetchesPast, FindsHalted, Forwards, Hits, IfDirect, IfFault, IfFetchFault, IfFetched, IfHalted, IfHit, IfSinkFault, IfWaited, MayForward, SentStored, Waits};
-ghost use Rattle.collapse.specs.Passes.{FollowsForward};
+ghost use Rattle.collapse.specs.Passes.{FollowsForward, StaysUnlessWritten};
 ghost use Rattle.core_model.specs.Tabs.{InnerIsFree, tab_at};
 ghost use Rattle.core_model.specs.declared.tab.Tab.TheVariants.{Free};
 ghost use Rattle.rock_reader.specs.Responses.{HoldsFile};
@@ -54,6 +54,7 @@ pub fn forward<R: Wait, C: Cell, O: Origin, St: Station<C = C>, F: Fetcher, K: S
     ensures free { tab_at (view pass.new) TAB ≡ Free }
     ensures inner { InnerIsFree (view pass.new) }
     ensures others { FollowsForward C.tells C.state O.offers store.now TAB pass.old pass.new }
+    ensures stays { StaysUnlessWritten result pass.old.hand pass.new.hand }
     ensures station { StationAt result (St.faults station.old) (St.faults station.new) }
     ensures fetch { FetcherAt result (F.faults fetcher.old) (F.faults fetcher.new) }
     ensures sink { SinkAt result (K.faults out.old) (K.faults out.new) }
@@ -90,6 +91,7 @@ pub fn forward_within<R: Wait, C: Cell, O: Origin, St: Station<C = C>, F: Fetche
     ensures free { tab_at (view pass.new) TAB ≡ Free }
     ensures inner { InnerIsFree (view pass.new) }
     ensures others { FollowsForward C.tells C.state O.offers store.now TAB pass.old pass.new }
+    ensures stays { StaysUnlessWritten result pass.old.hand pass.new.hand }
     ensures station { StationAt result (St.faults station.old) (St.faults station.new) }
     ensures fetch { FetcherAt result (F.faults fetcher.old) (F.faults fetcher.new) }
     ensures sink { SinkAt result (K.faults out.old) (K.faults out.new) }

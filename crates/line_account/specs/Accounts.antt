@@ -1,5 +1,5 @@
 -- The account of a worker: what it knows, and which line each of its deeds belongs to.
-use Rattle.std.specs.Prelude.{Bool, IsTrue, List, None, Some, [], count_by, false, length, true, ◌+◌, ◌<◌, ◌∷◌, ◌↔◌, ◌≡◌, ◌≢◌, ◌⊎◌}
+use Rattle.std.specs.Prelude.{Bool, IsTrue, List, None, Some, [], cond, count_by, false, length, sum_by, true, ◌==◌, ◌≤◌, ◌+◌, ◌<◌, ◌∷◌, ◌↔◌, ◌≡◌, ◌≢◌, ◌⊎◌}
 use Rattle.std.specs.Prelude.{Contains, ℕ}
 use Rattle.lock_word.specs.Words.{epoch_number, version_of}
 use Rattle.lock_word.specs.declared.cause.Cause.{Cause}
@@ -19,8 +19,9 @@ use Rattle.core_model.specs.Trails.{drawn, draws, has_drawn, is_drawn}
 use Rattle.line_account.specs.Lines.{Fits, IsAt, Offers, Served, Writes, begun_by, gives_up, offers}
 use Rattle.line_account.specs.Requests.{IsAnswerTo}
 use Rattle.line_account.specs.Stopping.{ReadsBehind, is_end, is_halted, is_other_url}
-use Rattle.line_account.specs.Deeds.{Began, Grows, HasLine, IsWriting}
+use Rattle.line_account.specs.Deeds.{Began, Grows, HasLine, IsWriting, TellsStored, TellsStoredDoomed}
 use Rattle.line_account.specs.Answers.{ComesIn, HasAdded, HasGiven, HasHit, HasOpened, HasOther, HasPurged, IsBusy, IsCauseOf, IsKeyRead}
+use Rattle.line_account.specs.Answers.{GivesOwn, HasLost, HasNoUse, HasWaited, IsNoForward, Speaks, most_tries}
 use Rattle.line_account.specs.Answers.{IsLarge, IsLong, IsOfOpened, IsSmall, IsSpent, Reads, Refuses, Run, TellsDoom}
 use Rattle.lock_word.specs.declared.stage.Stage.TheVariants.{Appending, Closed, Halted, Taken}
 use Rattle.line_account.specs.EpochNames.{IsAtStage, closed_and_doomed, undoomed_at}

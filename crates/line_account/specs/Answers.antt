@@ -15,7 +15,7 @@ use Rattle.script_text.specs.Shapes.{Shape, shape_of}
 use Rattle.script_text.specs.declared.answer.Answer.{Answer}
 use Rattle.script_text.specs.declared.answer.Answer.TheVariants as answer
 use Rattle.script_text.specs.declared.request.Request.{Request}
-use Rattle.script_text.specs.declared.request.Request.TheVariants.{Add, Get, More}
+use Rattle.script_text.specs.declared.request.Request.TheVariants.{Add, Forward, Get, More}
 use Rattle.core_model.specs.declared.moves.Side.TheVariants.{Key0, Key1, Offer}
 use Rattle.core_model.specs.declared.view.Item.{Item}
 use Rattle.core_model.specs.declared.view.Kind.{Kind}
@@ -26,8 +26,8 @@ use Rattle.core_model.specs.declared.view.View.{View}
 use Rattle.core_model.specs.Anchors.{opening_counter}
 use Rattle.core_model.specs.Layout.{Setting, word_in}
 use Rattle.script_text.specs.Requests.{url_in}
-use Rattle.line_account.specs.Lines.{IsAt, Served, added, begun_by, bytes_given, bytes_in, offers, opened_by, reading, writing}
-use Rattle.lock_word.specs.declared.stage.Stage.TheVariants.{Appending, Halted}
+use Rattle.line_account.specs.Lines.{IsAt, Served, added, begun_by, bytes_given, bytes_in, is_direct, offers, opened_by, reading, writing}
+use Rattle.lock_word.specs.declared.stage.Stage.TheVariants.{Appending, Empty, Gone, Halted, Taken}
 use Rattle.line_account.specs.EpochNames.{IsFromStage, IsUpToStage}
 use Rattle.line_account.specs.ScriptOrder.{◌then◌}
 

@@ -1,5 +1,5 @@
 -- All workers at the end, and what is said of their lines together.
-use Rattle.std.specs.Prelude.{List, count_by, length, sum_by, true, ◌*◌, ◌+◌, ◌<◌, ◌≡◌, ◌⊎◌, Contains, ℕ}
+use Rattle.std.specs.Prelude.{List, length, sum_by, true, ◌*◌, ◌+◌, ◌<◌, ◌≡◌, ◌⊎◌, Contains, ℕ}
 use mathlib.Core.Option.{some}
 use lib.ListN.{get_elem?}
 use Rattle.lock_word.specs.Words.{version_of}
@@ -10,9 +10,9 @@ use Rattle.core_model.specs.declared.view.View.{View}
 use Rattle.core_model.specs.Sound.{Sound}
 use Rattle.core_model.specs.State.{State}
 use Rattle.core_model.specs.Tabs.{IsPass}
-use Rattle.line_account.specs.Lines.{IsAt, Served, Writes, offers}
-use Rattle.line_account.specs.Deeds.{Begins, Halts, IsWriting, PrintsBegunVersion, Purges, WipesInVain}
-use Rattle.line_account.specs.Accounts.{Account, Shows}
+use Rattle.line_account.specs.Lines.{IsAt, Served, Writes}
+use Rattle.line_account.specs.Deeds.{Begins, Halts, IsWriting, PrintsBegunVersion, Purges, TellsStored, WipesInVain}
+use Rattle.line_account.specs.Accounts.{Account, Shows, many_draws}
 use Rattle.line_account.specs.Answers.{Run}
 use Rattle.lock_word.specs.declared.stage.Stage.TheVariants.{Halted}
 use Rattle.line_account.specs.EpochNames.{IsAtStage}

@@ -1,5 +1,5 @@
 -- The course of a worker: what each line adds to its account, and what the end does.
-use Rattle.std.specs.Prelude.{Bool, IsTrue, List, [], cond, ◌+◌, ◌<◌, ◌≡◌, ◌≤◌, ◌⊎◌, Contains, ℕ}
+use Rattle.std.specs.Prelude.{Bool, IsTrue, List, [], ◌+◌, ◌<◌, ◌≡◌, ◌≤◌, ◌⊎◌, Contains, ℕ}
 use Rattle.lock_word.specs.Words.{epoch_number, stage_of, version_of}
 use Rattle.lock_word.specs.declared.epoch.Epoch.{Epoch}
 use Rattle.script_text.specs.declared.answer.Answer.TheVariants as answer
@@ -13,7 +13,7 @@ use Rattle.core_model.specs.Versions.{Leads}
 use Rattle.line_account.specs.Lines.{Served}
 use Rattle.line_account.specs.Deeds.{Begins as BeginsVersion, IsDeedOf, IsDeedOfEnd, IsWriting}
 use Rattle.line_account.specs.Answers.{HasPart, Run}
-use Rattle.line_account.specs.Accounts.{HasHalted, Shows, Tells, drew_some, drew_version}
+use Rattle.line_account.specs.Accounts.{HasHalted, Shows, Tells, draws_of, many_draws}
 use Rattle.line_account.specs.ScriptOrder.{◌then◌}
 
 -- What the line s adds, after these lines, where the worker had the view v before it and has w after it: it draws what it says, each new

@@ -9,6 +9,7 @@ use Rattle.script_text.specs.declared.answer.Answer.TheVariants as answer
 use Rattle.script_text.specs.declared.body.Body.{Body}
 use Rattle.script_text.specs.declared.line.Line.{Line}
 use Rattle.script_text.specs.declared.request.Request.{Request}
+use Rattle.core_model.specs.Trails.{has_drawn}
 use Rattle.script_text.specs.declared.request.Request.TheVariants.{Add, CloseTab, DropTab, End, More}
 use Rattle.line_account.specs.ScriptOrder.{◌followed_by◌, ◌then◌}
 

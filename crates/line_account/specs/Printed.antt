@@ -11,14 +11,14 @@ use Rattle.script_text.specs.declared.answer.Answer.{Answer}
 use Rattle.script_text.specs.declared.answer.Answer.TheVariants as answer
 use Rattle.script_text.specs.declared.body.Body.{Body}
 use Rattle.script_text.specs.declared.request.Request.{Request}
-use Rattle.script_text.specs.declared.request.Request.TheVariants.{Add, Begin, End, Get, Put, Save}
+use Rattle.script_text.specs.declared.request.Request.TheVariants.{Add, Begin, End, Forward, Get, Put, Save}
 use Rattle.core_model.specs.declared.moves.Side.TheVariants.{Key0, Key1, Offer}
 use Rattle.core_model.specs.declared.view.Place.TheVariants.{Beside}
 use Rattle.core_model.specs.Anchors.{opening_epoch}
 use Rattle.core_model.specs.Layout.{word_in}
 use Rattle.script_text.specs.Requests.{url_in}
 use Rattle.line_account.specs.Lines.{IsAnchorOf, IsAt, Offers, Served, Writes, begun_by, opened_by, writing}
-use Rattle.line_account.specs.Deeds.{ComesTo, MayEvict}
+use Rattle.line_account.specs.Deeds.{ComesTo, MayEvict, TellsStored, TellsStoredDoomed}
 use Rattle.line_account.specs.Answers.{IsHeld, IsOvertaken, IsSure, IsWhole, Reads, Refuses, Run, bytes_with, readers_at}
 use Rattle.line_account.specs.Closing.{BegunIn, HaltedIn, LineIn, StoredIn, TellsBegunIn, Worker}
 use Rattle.line_account.specs.Order.{Opens}

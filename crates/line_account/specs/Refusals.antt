@@ -10,11 +10,11 @@ use Rattle.script_text.specs.declared.body.Body.{Body}
 use Rattle.script_text.specs.declared.line.Line.{Line}
 use Rattle.core_model.specs.Anchors.{opening_counter}
 use Rattle.line_account.specs.Accounts.{epoch_in}
-use Rattle.line_account.specs.Answers.{AreCounted, IsCauseOf, IsLong, Refuses, Run, readers_at}
+use Rattle.line_account.specs.Answers.{AreCounted, GivesOwn, IsCauseOf, IsLong, IsNoForward, Refuses, Run, readers_at}
 use Rattle.line_account.specs.Closing.{LineIn, Worker}
 use Rattle.line_account.specs.Lines.{Fits, Offers, Served, added}
 use Rattle.line_account.specs.Order.{FindsEntry}
-use Rattle.line_account.specs.Printed.{AnotherComes, EndsBegun, HasBusyWords, HasOtherUrl, NeedsTooMany, PrintsAdded, PrintsEnded}
+use Rattle.line_account.specs.Printed.{AnotherComes, AnotherLineNames, EndsBegun, HasBusyWords, HasOtherUrl, NeedsTooMany, PrintsAdded, PrintsEnded, PrintsWaited}
 use Rattle.line_account.specs.Printed.{PrintsBusy, PrintsLarge, PrintsOther, PrintsReaders}
 use Rattle.line_account.specs.Requests.{IsAnswerTo}
 use Rattle.plain_model.specs.Weights.{weights}

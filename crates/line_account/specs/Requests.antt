@@ -2,7 +2,7 @@
 use Rattle.script_text.specs.declared.answer.Answer.{Answer}
 use Rattle.script_text.specs.declared.answer.Answer.TheVariants as answer
 use Rattle.script_text.specs.declared.request.Request.{Request}
-use Rattle.script_text.specs.declared.request.Request.TheVariants.{Add, Await, Begin, CloseTab, DropTab, End, Get, Mark, More, OpenTab}
+use Rattle.script_text.specs.declared.request.Request.TheVariants.{Add, Await, Begin, CloseTab, DropTab, End, Forward, Get, Mark, More, OpenTab}
 use Rattle.script_text.specs.declared.request.Request.TheVariants.{Purge, Put, Save, Wipe}
 
 -- the writing of a whole response

@@ -5,3 +5,4 @@ pub mod Writing
 pub mod Reading
 pub mod Serving
 pub mod Opening
+pub mod Weights

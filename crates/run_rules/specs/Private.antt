@@ -1,11 +1,11 @@
 -- What a worker is answered to its private lines, and what these leave, by a plain store that is opened on the file.
-use Rattle.std.specs.Prelude.{Bool, List, count_by, length, map, not, ◌&&◌, ◌+◌, ◌==◌, ◌≡◌, ◌≤◌, ℕ}
+use Rattle.std.specs.Prelude.{Bool, List, length, map, not, ◌&&◌, ◌+◌, ◌==◌, ◌≡◌, ◌≤◌, ℕ}
 use Rattle.std.specs.List.{list_all}
 use mathlib.Core.Option.{some}
 use lib.ListN.{get_elem?}
 use Rattle.rock_disk.specs.Counts.{Counts}
 use Rattle.rock_disk.specs.File.{Files}
-use Rattle.script_text.specs.Requests.{offers_body}
+use Rattle.plain_model.specs.Weights.{weights}
 use Rattle.script_text.specs.declared.answer.Answer.{Answer}
 use Rattle.script_text.specs.declared.line.Line.{Line}
 use Rattle.plain_model.specs.declared.store.Plain.{Plain}

@@ -1,5 +1,6 @@
 -- The answers of calls, as answers to lines.
 use Rattle.std.specs.Prelude.{Bool, Err, List, Ok, Result, false, true, ◌≡◌, ℕ}
+use Rattle.collapse.specs.Faults.{MayRise}
 use Rattle.rock_io.specs.Faults.{Rose}
 use Rattle.lock_word.specs.declared.cause.Cause.{Cause}
 use Rattle.lock_word.specs.declared.epoch.Epoch.{Epoch}
@@ -95,7 +96,14 @@ is_fault answer.Fault = true
 is_fault (answer.ReadFault bytes) = true
 is_fault _ = false
 
--- A station's count of faults was so before a request and is so behind it: it rose where the answer tells a fault, and only there.
+-- whether it may hide one: DIRECT does not say why nothing was stored
+abbrev pub hides_fault : Answer → Bool
+hides_fault (answer.Direct bytes) = true
+hides_fault _ = false
+
+-- A station's count of faults was so before a request and is so behind it: it rose where the answer tells a fault, and elsewhere only where the
+-- answer may hide one.
 pub record TellsFaults (a : Answer) (before after : ℕ) : Type 0 where
   pub rose : is_fault a ≡ true → Rose before after
-  pub same : is_fault a ≡ false → after ≡ before
+  pub same : is_fault a ≡ false → hides_fault a ≡ false → after ≡ before
+  pub hidden : hides_fault a ≡ true → MayRise before after

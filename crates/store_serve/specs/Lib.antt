@@ -13,3 +13,5 @@ pub mod Acting
 pub mod Deeds
 pub mod Refusing
 pub mod Showing
+pub mod Forwarding
+pub mod Fetching

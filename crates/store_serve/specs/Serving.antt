@@ -6,7 +6,7 @@ use Rattle.script_text.specs.Tabs.{UsesTab}
 use Rattle.script_text.specs.declared.answer.Answer.{Answer}
 use Rattle.script_text.specs.declared.line.Line.{Line}
 use Rattle.script_text.specs.declared.request.Request.{Request}
-use Rattle.script_text.specs.declared.request.Request.TheVariants.{Add, Await, Begin, CloseTab, DropTab, End, Get, Mark, More, OpenTab, Purge, Put, Save, Wipe}
+use Rattle.script_text.specs.declared.request.Request.TheVariants.{Add, Await, Begin, CloseTab, DropTab, End, Forward, Get, Mark, More, OpenTab, Purge, Put, Save, Wipe}
 use Rattle.script_text.specs.Requests.{url_in}
 use Rattle.store_key.specs.Url.{IsUrl}
 use Rattle.store_rule.specs.declared.store.Pass.{Pass}
@@ -14,6 +14,8 @@ use Rattle.store_rule.specs.declared.store.Store.{Store}
 use Rattle.store_rule.specs.Ground.{Offers}
 use Rattle.store_rule.specs.Passes.{basis}
 use Rattle.store_serve.specs.Answers.{TellsFaults}
+use Rattle.plain_model.specs.Serving.{bytes_of}
+use Rattle.store_serve.specs.Forwarding.{Forwards}
 use Rattle.store_serve.specs.Reading.{ClosesOn, OpensOn, ReadsMore}
 use Rattle.store_serve.specs.Tabs.{IsOffered, Leaves, MayGo}
 use Rattle.store_serve.specs.Whole.{Gets, Purges, Puts, Wipes, whole_tab}
@@ -45,14 +47,15 @@ module _ {C O : Type 0} (tells : Bool) (state : C → CellState) (offers : O →
     pub asks : MayAsk line.number line.request
     pub goes : (url : List ℕ) → url_in line.request ≡ Some url → MayGo tells state offers s p url
 
-  module _ (number : ℕ) (p : Pass C) (a : Answer) (q : Pass C) where
-    -- a request was answered so
+  module _ (number : ℕ) (p : Pass C) (a : Answer) (q : Pass C) (faults_before faults_after : ℕ) where
+    -- a request was answered so, where the station's count of faults was so before it and is so behind it
     abbrev pub ServesRequest : Request → Type 0
     ServesRequest (Put url body) = Puts tells state offers s url p a q (offer_of number) false
     ServesRequest (Save url body) = Puts tells state offers s url p a q (offer_of number) true
     ServesRequest (Get url) = Gets tells state offers s url p a q
     ServesRequest (Purge url) = Purges tells state offers s url p a q
     ServesRequest (Wipe url) = Wipes tells state offers s url p a q
+    ServesRequest (Forward url body) = Forwards tells state offers s url p a q (offer_of number) (bytes_of body) faults_before faults_after
     ServesRequest (Begin t url body) = BeginsOn tells state offers s t p a q (offer_of number) url
     ServesRequest (Add t count) = AddsOn tells state offers s t p a q count
     ServesRequest (End t) = EndsOn tells state offers s t p a q
@@ -65,6 +68,6 @@ module _ {C O : Type 0} (tells : Bool) (state : C → CellState) (offers : O →
 
   -- A line was answered so: by its request, which left all but the tab that it uses; and a fault was told where the station failed.
   pub record Serves (line : Line) (p : Pass C) (a : Answer) (q : Pass C) (faults_before faults_after : ℕ) : Type 0 where
-    pub request : ServesRequest line.number p a q line.request
+    pub request : ServesRequest line.number p a q faults_before faults_after line.request
     pub leaves : (t : ℕ) → UsesTab line.request t → Leaves tells state offers s t p q
     pub faults : TellsFaults a faults_before faults_after

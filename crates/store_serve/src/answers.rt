@@ -2,10 +2,13 @@
 ghost use Rattle.std.specs.Prelude.{◌≡◌, ◌≢◌, ℕ};
 ghost use Rattle.rock_reader.specs.declared.answer.More.TheVariants.{Piece};
 ghost use Rattle.store_serve.specs.declared.getting.Got.TheVariants.{Found};
+ghost use Rattle.collapse.specs.declared.answer.Forwarded.TheVariants.{FetchFault, SinkFault};
+ghost use Rattle.store_serve.specs.Forwarding.{AnswersForward};
 ghost use Rattle.store_serve.specs.Answers.{AnswersGet, AnswersMore, AnswersWhole, answer_to_end, answer_to_ended, answer_to_fault, answer_to_open, answer_to_purge, answer_to_put, answer_to_refusal, answer_to_wipe};
 
 use crate::getting::Got;
 use crate::storing::PutFault;
+use collapse::Forwarded;
 use lock_word::{Cause, Epoch};
 use purge_entry::{WipeFault, Wiped};
 use rock_io::Octets;
@@ -95,6 +98,23 @@ pub(crate) fn wiped(outcome: Result<Wiped, WipeFault>) -> Answer
         Ok(Wiped::Later { epoch }) => Answer::Later { epoch },
         Err(WipeFault::NoEntry { cause }) => Answer::NoEntry { cause },
         Err(WipeFault::Fault) => Answer::Fault,
+    }
+}
+
+/// What came of forwarding a response, with the bytes that were given.
+pub(crate) fn forwarded(outcome: Forwarded, bytes: Octets) -> Answer
+    requires fetched { outcome ≢ FetchFault }
+    requires sent { outcome ≢ SinkFault }
+    ensures { AnswersForward outcome bytes result }
+{
+    match outcome {
+        Forwarded::Hit { version } => Answer::Hit { version, bytes },
+        Forwarded::Fetched { version } => Answer::Fetched { version, bytes },
+        Forwarded::Direct { .. } => Answer::Direct { bytes },
+        Forwarded::Halted => Answer::Halted { bytes },
+        Forwarded::Fault => Answer::ReadFault { bytes },
+        Forwarded::Waited { .. } => Answer::Waited { bytes },
+        Forwarded::FetchFault | Forwarded::SinkFault => unreachable!(),
     }
 }
 

@@ -8,7 +8,9 @@ mod acting;
 mod adding;
 mod answers;
 mod bodies;
+mod fetching;
 mod following;
+mod forwarding;
 mod getting;
 mod growing;
 mod laws;
@@ -23,6 +25,7 @@ pub use acting::{purging_acts, reading_acts, serving_acts, wiping_acts, writing_
 pub use adding::add_bytes;
 pub use bodies::body_length;
 pub use following::read_on;
+pub use forwarding::forward_whole;
 pub use getting::{Got, get_entry};
 pub use growing::{
     growing_adds_up, purging_grows, readers_stay, reading_grows, serving_grows, wiping_grows,

@@ -19,7 +19,7 @@ use std::mem;
 use std::sync::Wait;
 use store_rule::{Origin, Pass, Store};
 use store_serve::{
-    ScriptTab, Told, add_to_tab, begin_on_tab, close_tab, drop_tab, end_tab, get_whole, open_tab,
+    ScriptTab, Told, add_to_tab, begin_on_tab, close_tab, drop_tab, end_tab, forward_whole, get_whole, open_tab,
     purge_url, put_whole, read_more, requests_keep_other_tabs, wipe_url,
 };
 
@@ -41,6 +41,7 @@ pub(crate) fn serve_line<R: Wait, C: Cell, O: Origin, St: Station<C = C>>(
     requires holds { AllHold C.tells C.state O.offers store.now pass.old tabs.old }
     requires takes { Takes C.tells C.state O.offers store.now pass.old line.now }
     requires room { (basis C.tells C.state O.offers store.now).slot ≤ length piece.old + HEADER_SIZE }
+    requires some { 0 < length piece.old }
     ensures served { IfOk result (λ answer. Serves C.tells C.state O.offers store.now line.now pass.old answer pass.new (St.faults station.old) (St.faults station.new)) }
     ensures holds { AllHold C.tells C.state O.offers store.now pass.new tabs.new }
     ensures free { OnErr result ((tab : ℕ) → UsesTab line.now.request tab → IsFree pass.new tab) }
@@ -73,6 +74,17 @@ pub(crate) fn serve_line<R: Wait, C: Cell, O: Origin, St: Station<C = C>>(
         Request::Get { url } => get_whole(rt, alloc, store, pass, station, url.as_slice(), piece),
         Request::Purge { url } => Ok(purge_url(store, pass, url.as_slice())),
         Request::Wipe { url } => Ok(wipe_url(store, pass, station, url.as_slice())),
+        Request::Forward { url, body } => forward_whole(
+            rt,
+            alloc,
+            store,
+            pass,
+            station,
+            offer,
+            url.as_slice(),
+            body,
+            piece,
+        ),
         Request::Mark { .. } | Request::Await { .. } => unreachable!(),
         Request::Begin { tab, .. }
         | Request::Add { tab, .. }

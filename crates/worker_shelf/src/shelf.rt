@@ -137,7 +137,7 @@ impl ShelfRoom {
                 ScriptTab::Free,
             ],
         )?;
-        let piece = vec![in alloc; 0; (slot as usize).saturating_sub(HEADER_SIZE)]?;
+        let piece = vec![in alloc; 0; (slot as usize).saturating_sub(HEADER_SIZE).max(1)]?;
         Ok(ShelfRoom { tabs, piece })
     }
 }
