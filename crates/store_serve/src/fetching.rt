@@ -11,6 +11,7 @@ use std::alloc::Global;
 
 /// Fetches the body of a line, whatever the URL and the offer. It fails where the count of its fetches is at its end,
 /// and nowhere else.
+#[derive(Drop)]
 pub(crate) struct BodyFetcher<'a> {
     body: &'a Body,
     at: usize,
@@ -98,6 +99,7 @@ impl<'a> Fetcher for BodyFetcher<'a> {
 }
 
 /// Takes all bytes into memory, as long as there is some. It fails where memory is wanting.
+#[derive(Drop)]
 pub(crate) struct BodySink {
     bytes: Vec<u8>,
     faults: u64,
