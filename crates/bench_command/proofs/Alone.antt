@@ -20,6 +20,7 @@ use Rattle.entry_cut.specs.Content.{room_of}
 use Rattle.plain_laws.specs.Fitting.{Fits}
 use Rattle.plain_laws.specs.Private.{IsServedAlone, answers_to, is_private, private_lines}
 use Rattle.plain_laws.specs.Renaming.{renamed}
+use Rattle.run_rules.proofs.TabsApart.{alone_apart}
 use Rattle.run_rules.specs.Fitting.{FitsInto}
 use Rattle.run_rules.specs.Private.{AreAnsweredAlone, OpensWithRoom}
 use Rattle.run_rules.specs.Runs.{IsExplained}
@@ -96,10 +97,10 @@ pub record BenchLaws (seed workers count : ℕ) : Type 0 where
       → Fits (setting_of workers (length images)) (bench_lines seed workers count) (fresh (anchors_for workers))
       → FitsInto slot_size (anchors_for workers) images (bench_lines seed workers count)
 
-module _ (seed workers count : ℕ) (laws : BenchLaws seed workers count) (volume_tells : Bool) (files : Files) (name : List ℕ)
+module _ (seed workers count : ℕ) (laws : BenchLaws seed workers count) (volume_tells : Bool) (files left : Files) (name : List ℕ)
     (answers : List (List (ℕ × Answer))) (before after : Counts)
     (explained : IsExplained volume_tells files name slot_size (anchors_for workers) workers (bench_lines seed workers count) answers (made_counts before) after)
-    (private : AreAnsweredAlone files name slot_size (anchors_for workers) workers (bench_lines seed workers count) answers (made_counts before) after)
+    (last : ℕ → ℕ) (private : AreAnsweredAlone files left name slot_size (anchors_for workers) workers (bench_lines seed workers count) answers (made_counts before) after last)
     (zeros : All AreZeros private.images) (slots : length private.images ≡ slots_for workers) (none : NoWorkerFailed before after) where
   abbrev script : List Line
   script = bench_lines seed workers count
@@ -132,10 +133,11 @@ module _ (seed workers count : ℕ) (laws : BenchLaws seed workers count) (volum
     station = all_zero explained.stations j (none explained.stations explained.ended) (let n = explained.many in omega (arith, n, small))
 
     served : IsServedAlone (setting_of workers (length private.images)) script (j + 1) private.plain (answers_alone row.item)
-    served = private.each explained.stations explained.ended j row.item row.at station private.images private.plain with_room
+    served = (private.each explained.stations explained.ended j row.item row.at station private.images private.plain with_room
+        (λ tab. alone_apart (setting_of workers (length private.images)) script (j + 1) tab
         (λ line mine. let own = of_worker (j + 1) script line mine in
         inr (subst (λ (w : ℕ). is_private (setting_of workers (length private.images)) script w line ≡ true) own.is
-        (subst (λ (s : Setting). is_private s script line.worker line ≡ true) (sym setting_is) (laws.private line own.among))))
+        (subst (λ (s : Setting). is_private s script line.worker line ≡ true) (sym setting_is) (laws.private line own.among)))))).served
 
     renamed_row : IsRenamed (answers_alone row.item) (answers_to_one seed workers count (j + 1))
     renamed_row = laws.renamed (j + 1) served.rename (answers_alone row.item) each_answered

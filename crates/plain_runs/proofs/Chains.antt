@@ -89,7 +89,7 @@ module _ (g : Ground (List ℕ)) (s : State (List ℕ)) (rule : Rule g s) where
   reserved_inside j t x w h c = inside x (let z = contains_times x w.reserved c in let a = le_sum_at (held_in x) h.view.tabs t (Writing w) h.there in let b = le_sum_at (count (held_in x)) s.views j h.view h.at in omega arith)
 
   -- Where a slot of a chain is, or the one that its end names: in the chain, or reserved by the tab that writes there.
-  abbrev IsOf : ℕ → Spot → Type 0
+  abbrev pub IsOf : ℕ → Spot → Type 0
   IsOf a (Chained b) = b ≡ a
   IsOf a (Reserved j t) = (w : Writer (List ℕ)) × IsTab s j t (Writing w) × (w.anchor ≡ a)
   IsOf a _ = ⊥

@@ -1,5 +1,5 @@
--- What a lone pass shows when its store is closed stands in the file that is given back.
-use Rattle.std.proofs.Common.{Bool, List, [], ap, arith, length, map, refl, subst, suc, sym, zero, ◌+◌, ◌<◌, ◌∙◌, ◌∷◌, ◌≡◌, ◌≤◌, ◌^◌, ℕ}
+-- What a pass shows of its lot when its store is closed stands in the file that is given back.
+use Rattle.std.proofs.Common.{Bool, List, [], ap, arith, length, map, refl, subst, suc, sym, true, zero, ◌+◌, ◌<◌, ◌∙◌, ◌∷◌, ◌≡◌, ◌≤◌, ◌^◌, ℕ}
 use Rattle.std.specs.Prelude.{IsTrue, None, Option, Some, slice_index_or}
 use Rattle.std.proofs.lemmas.List.{length-map}
 use mathlib.Core.Option.{some}
@@ -21,6 +21,7 @@ use Rattle.plain_model.specs.declared.entry.Entry.{Entry}
 use Rattle.plain_model.specs.declared.entry.Life.TheVariants.{Whole}
 use Rattle.plain_model.specs.declared.store.Plain.{Plain}
 use Rattle.plain_model.specs.Store.{entry_at, place_at, word_at}
+use Rattle.plain_laws.specs.Renaming.{renamed_word}
 use Rattle.store_rule.specs.declared.store.Pass.{Pass}
 use Rattle.store_rule.specs.declared.store.Store.{Store}
 use Rattle.store_rule.specs.Closing.{Closed}
@@ -30,10 +31,11 @@ use Rattle.store_rule.specs.Passes.{basis, view}
 use Rattle.store_rule.proofs.Passing.{pass_of}
 use Rattle.store_rule.specs.Setting.{shown}
 use Rattle.rock_reader.specs.Responses.{IsResponse}
-use Rattle.plain_runs.specs.Words.{IsLone, Knows, ShowsEntry, no_guests, setting_of}
-use Rattle.plain_runs.proofs.OwnAnchors.{OwnsAnchor, owns_lone}
-use Rattle.plain_runs.specs.Ends.{HasVersions, HoldsEntry, HoldsWhole, IsHomeAs, SpellsResponse, TellsPieces}
+use Rattle.plain_runs.specs.Words.{IsLone, KnowsLot, Lot, ShowsEntry, no_guests, setting_of, whole_lot}
+use Rattle.plain_runs.proofs.OwnAnchors.{OwnsAnchor, OwnsLot, lot_lone}
+use Rattle.plain_runs.specs.Ends.{HasVersions, HoldsEntry, HoldsWholeAt, IsHomeAs, SpellsResponse, TellsPieces}
 use Rattle.plain_runs.specs.Runs.{ShowsPlain}
+use Rattle.plain_runs.specs.Shows.{ShowsLot}
 use Rattle.plain_runs.proofs.Spelled.{spells}
 use Rattle.plain_runs.proofs.Standing.{entry_shown, offer_stands, stage_is, version_stands}
 
@@ -64,33 +66,33 @@ module _ {C : Type 0} (tells : Bool) (state : C → CellState) (told : IsTrue te
     );
   }
 
-module _ (g : Ground (List ℕ)) (lone : IsLone g) (s : State (List ℕ)) (i : ℕ) (v : View (List ℕ)) (rule : Rule g s) (at : get_elem? s.views i ≡ some v) (pass : IsPass v)
+module _ (g : Ground (List ℕ)) (rename : ℕ → ℕ) (lot : Lot) (s : State (List ℕ)) (i : ℕ) (v : View (List ℕ)) (owns : OwnsLot g lot v.pass) (rule : Rule g s) (at : get_elem? s.views i ≡ some v) (pass : IsPass v)
     (pieces : TellsPieces g) (versions : HasVersions g) (images : List (List ℕ)) (home : IsHomeAs g s images) (many : length g.setting.contents ≡ g.setting.slots)
-    (sized : g.slot < 2 ^ 32) (few : g.setting.slots ≤ 1048576) (placed : PlacedPieces) (p : Plain) (knows : Knows g (λ v. v) v p no_guests) (eight : length p.tabs ≡ 8) where
+    (sized : g.slot < 2 ^ 32) (few : g.setting.slots ≤ 1048576) (placed : PlacedPieces) (p : Plain) (knows : KnowsLot g rename lot v p no_guests) (eight : length p.tabs ≡ 8) where
   abbrev at_state : Stands g v
   at_state = record { state = s; index = i; rule = rule; at = at }
 
-  module _ (a : ℕ) (e : Entry) (lt : a < g.setting.anchors) (there : entry_at p a ≡ Some e) (whole : e.life ≡ Whole) where
+  module _ (a : ℕ) (e : Entry) (lt : a < g.setting.anchors) (ours : lot.anchors a ≡ true) (there : entry_at p a ≡ Some e) (whole : e.life ≡ Whole) where
     own : OwnsAnchor g v.pass a
-    own = owns_lone g lone v.pass a
+    own = owns a lt ours
 
     closed : stage_of (epoch_of (word s a)) ≡ 3
-    closed = stage_is g v at_state pass p knows eight a own e lt there whole
+    closed = stage_is g rename lot v at_state pass p knows eight a own e lt ours there whole
 
-    version_is : version_of (epoch_of (word s a)) ≡ (place_at p a).version
-    version_is = version_stands g v at_state pass p knows eight a own e lt there whole
+    version_is : version_of (epoch_of (word s a)) ≡ rename (place_at p a).version
+    version_is = version_stands g rename lot v at_state pass p knows eight a own e lt ours there whole
 
     entry_there : ShowsEntry g v a (place_at p a).version e
-    entry_there = entry_shown g v at_state pass p knows eight a own e lt there whole
+    entry_there = entry_shown g rename lot v at_state pass p knows eight a own e lt ours there whole
 
     offer_is : side_word g.setting s Offer a ≡ e.offer
-    offer_is = offer_stands g v at_state pass p knows eight a own e lt there whole
+    offer_is = offer_stands g rename lot v at_state pass p knows eight a own e lt ours there whole
 
     spelled : SpellsResponse g s images a e.url e.body
     spelled = spells g s rule pieces versions images home a lt closed many sized few placed e.url e.body
         (subst (λ (n : ℕ). IsResponse g a n e.url e.body) (sym offer_is) entry_there.offer.response)
 
-    held : HoldsEntry g.slot g.setting.anchors images a (place_at p a).version e
+    held : HoldsEntry g.slot g.setting.anchors images a (rename (place_at p a).version) e
     held = record {
       entry = spelled.entry;
       complete = spelled.complete;
@@ -100,17 +102,25 @@ module _ (g : Ground (List ℕ)) (lone : IsLone g) (s : State (List ℕ)) (i : �
       body_is = spelled.body_is;
     }
 
-  pub holds_whole : HoldsWhole g.slot g.setting.anchors images p
-  holds_whole a e lt there whole = held a e lt there whole
+  -- Each whole entry of the lot stands in these images.
+  pub holds_lot : HoldsWholeAt g.slot g.setting.anchors images lot.anchors rename p
+  holds_lot a e lt ours there whole = held a e lt ours there whole
+
+-- When a store was closed, each anchor of the lot had the word of the plain store of which a pass showed the lot.
+module _ {C O : Type 0} (tells : Bool) (state : C → CellState) (offers : O → Offers) (s : Store C O) (rename : ℕ → ℕ) (lot : Lot) (w : ℕ) (p : Pass C) (plain : Plain) (views : List (View (List ℕ))) (left : List C)
+    (closed : Closed tells state (basis tells state offers s) views left) (a : ℕ) (owns : OwnsLot (basis tells state offers s) lot (view p).pass) (there : get_elem? views w ≡ some (view p))
+    (shows : ShowsLot tells state offers s rename p plain lot) (lt : a < (basis tells state offers s).setting.anchors) (ours : lot.anchors a ≡ true) where
+  pub lot_word : word closed.gathered.state a ≡ word_number (renamed_word rename (word_at (setting_of (basis tells state offers s)) plain a))
+  lot_word = let gathered = closed.gathered in
+      (owns a lt ours).stands (view p) record { state = gathered.state; index = gathered.index w; rule = gathered.rule; at = gathered.at w (view p) there } (Anchor a) refl (pass_of p) refl lt
+      ∙ (shows.knows.each a lt ours).word ∙ plus_none _
+    where
+      plus_none : (n : ℕ) → n + 0 ≡ n
+      plus_none n = omega arith
 
 -- When a store with one pass was closed, each anchor had the word of the plain store that the pass showed.
 module _ {C O : Type 0} (tells : Bool) (state : C → CellState) (offers : O → Offers) (s : Store C O) (p : Pass C) (plain : Plain) (views : List (View (List ℕ))) (left : List C)
     (closed : Closed tells state (basis tells state offers s) views left) (a : ℕ) (lone : IsLone (basis tells state offers s)) (first : get_elem? views 0 ≡ some (view p))
     (shows : ShowsPlain tells state offers s p plain) (lt : a < (basis tells state offers s).setting.anchors) where
   pub closed_word : word closed.gathered.state a ≡ word_number (word_at (setting_of (basis tells state offers s)) plain a)
-  closed_word = let gathered = closed.gathered in
-      (owns_lone (basis tells state offers s) lone (view p).pass a).stands (view p) record { state = gathered.state; index = gathered.index 0; rule = gathered.rule; at = gathered.at 0 (view p) first } (Anchor a) refl (pass_of p) refl lt
-      ∙ (shows.knows.each a lt refl).word ∙ plus_none _
-    where
-      plus_none : (n : ℕ) → n + 0 ≡ n
-      plus_none n = omega arith
+  closed_word = lot_word tells state offers s (λ v. v) whole_lot 0 p plain views left closed a (lot_lone (basis tells state offers s) lone whole_lot (view p).pass) first shows lt refl

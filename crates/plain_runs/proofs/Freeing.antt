@@ -65,7 +65,7 @@ link_in : Place → ℕ
 link_in (Link slot) = slot
 link_in q = 0
 
-same_anchor : (a b : ℕ) → Anchor a ≡ Anchor b → a ≡ b
+pub same_anchor : (a b : ℕ) → Anchor a ≡ Anchor b → a ≡ b
 unfolding anchor_in
 same_anchor a b e = ap anchor_in e
 
@@ -73,11 +73,11 @@ side_in : Place → ℕ
 side_in (Beside side a) = a
 side_in q = 0
 
-same_side : (side other : Side) (a b : ℕ) → Beside side a ≡ Beside other b → a ≡ b
+pub same_side : (side other : Side) (a b : ℕ) → Beside side a ≡ Beside other b → a ≡ b
 unfolding side_in
 same_side side other a b e = ap side_in e
 
-same_link : (a b : ℕ) → Link a ≡ Link b → a ≡ b
+pub same_link : (a b : ℕ) → Link a ≡ Link b → a ≡ b
 unfolding link_in
 same_link a b e = ap link_in e
 
@@ -188,7 +188,7 @@ module _ (g : Ground (List ℕ)) (v : View (List ℕ)) (st : Stands g v) (pass :
       (λ none. apart_none (h.many ∙ (rw l none)) j c)
       (λ some_. let k : stage_here ≡ 2 = s ∙ (let z = ne_eqb (published (room_of g.slot) e.content) 0 some_ in rw (l, z) refl) in apart_spelled (omega arith) (omega arith) j c d)
 
-chained_apart_rest : (g : Ground (List ℕ)) (rename : ℕ → ℕ) (v : View (List ℕ)) → Stands g v → IsPass v → (p : Plain) (n b : ℕ) → OwnsAnchor g v.pass b → readers p b + n < 65536 → b < g.setting.anchors → ShowsAt g rename v p n b
+pub chained_apart_rest : (g : Ground (List ℕ)) (rename : ℕ → ℕ) (v : View (List ℕ)) → Stands g v → IsPass v → (p : Plain) (n b : ℕ) → OwnsAnchor g v.pass b → readers p b + n < 65536 → b < g.setting.anchors → ShowsAt g rename v p n b
     → (e : Entry) → entry_at p b ≡ Some e → (h : HasChain g v b e) → (f : Freer (List ℕ)) → tab_at v inner ≡ Freeing f → (j : ℕ) → Contains (h.slots ++ slots_of_link h.end) j → Contains f.rest j → ⊥
 chained_apart_rest g rename v st pass p n b own few lt shown e there h f is j c d = apart_life g v st pass f is b (place_at p b).version own lt e h e.life refl
     (stage_there rename (setting_of g) p n b (word st.state b) (own.stands v st (Anchor b) refl pass refl lt ∙ shown.word) few ∙ ap (λ o. stage_number (stage_of (room_of g.slot) (place_at p b).version o)) there) j c d

@@ -17,16 +17,16 @@ use Rattle.plain_runs.proofs.Courses.{plain_free}
 use Rattle.plain_runs.proofs.Lines.{LinesRight}
 
 -- the first tabs are left, so many of them
-abbrev left_below : ℕ → Plain → Plain
+abbrev pub left_below : ℕ → Plain → Plain
 left_below zero p = p
 left_below (suc t) p = leave t (left_below t p)
 
 -- all eight
-all_left : (p : Plain) → leave_all (range_with_len 0 8) p ≡ left_below 8 p
+pub all_left : (p : Plain) → leave_all (range_with_len 0 8) p ≡ left_below 8 p
 all_left p = refl
 
 -- a tab that is free stays so
-leave_free : (t : ℕ) (p : Plain) → tab_at p t ≡ Free → leave t p ≡ p
+pub leave_free : (t : ℕ) (p : Plain) → tab_at p t ≡ Free → leave t p ≡ p
 leave_free t p free = rw free refl
 
 module _ {C O : Type 0} (tells : Bool) (state : C → CellState) (offers : O → Offers) (s : Store C O) (lines : LinesRight tells state offers s) where

@@ -49,6 +49,14 @@ pub mod Ending
 pub mod Stopping
 pub mod Giving
 pub mod Putting
+pub mod AwayTabs
+pub mod AwaySteps
+pub mod AwayCalls
+pub mod AwayWriters
+pub mod AwayReaders
+pub mod AwayServing
+pub mod OtherLines
+pub mod SortedLines
 pub mod LotRequests
 pub mod LotLines
 pub mod LotCourses
@@ -64,3 +72,4 @@ pub mod GetLines
 pub mod PurgeLines
 pub mod LeavingLots
 pub mod Served
+pub mod LotEnds

@@ -1,8 +1,10 @@
--- The course of a worker whose lines are on a lot of a store that fits, or at marks: they are answered as by the plain store, but for versions.
-use Rattle.std.proofs.Common.{Bool, Contains, IsTrue, List, None, Option, Some, [], ap, arith, cond, false, inl, inr, map, refl, subst, suc, sym, true, ◌+◌, ◌<◌, ◌∙◌, ◌∷◌, ◌≡◌, ◌≢◌, ◌≤◌, ◌⊎◌, ℕ}
+-- The course of a worker whose lines are on a lot of a store that fits, elsewhere, or at marks: those on the lot are answered as by the plain store, but for
+-- versions.
+use Rattle.std.proofs.Common.{Bool, Contains, IsTrue, List, Some, [], ap, arith, cond, false, inl, inr, map, refl, subst, suc, sym, true, ◌+◌, ◌<◌, ◌∙◌, ◌∷◌, ◌≡◌, ◌≢◌, ◌≤◌, ◌⊎◌, ℕ}
 use Rattle.std.specs.Prelude.{filter}
 use Rattle.rock_disk.specs.Cell.{CellState}
 use Rattle.script_text.specs.Requests.{offers_body}
+use Rattle.script_text.specs.Tabs.{UsesTab}
 use Rattle.script_text.specs.declared.answer.Answer.{Answer}
 use Rattle.script_text.specs.declared.answer.Answer.TheVariants as answer
 use Rattle.script_text.specs.declared.line.Line.{Line}
@@ -32,14 +34,16 @@ use Rattle.rock_reader.specs.Responses.{HoldsFile}
 use Rattle.worker_pool.specs.Courses.{IsServed, Linked, Stage}
 use Rattle.store_serve.specs.Answers.{is_fault}
 use Rattle.store_serve.specs.Serving.{Serves, Takes}
+use Rattle.store_serve.specs.Growing.{GrowsTo}
 use Rattle.store_serve.specs.Tabs.{IsFree, Leaves}
 use Rattle.store_serve.specs.Whole.{whole_tab}
 use Rattle.worker_shelf.specs.Shelves.{Learned, Noted, OnShelf, Went}
 use Rattle.worker_shelf.proofs.Holding.{Stays}
-use Rattle.worker_shelf.specs.Playing.{IsStep, Meets, Notes, StepOn}
+use Rattle.worker_shelf.specs.Playing.{IsStep, StepOn}
 use Rattle.core_alone.proofs.Renewed.{noted as noted_kind, learned as learned_kind}
 use Rattle.crew_accounts.proofs.GivenBytes.{IsFromFront}
 use Rattle.store_serve.proofs.Grown.{knows_all}
+use Rattle.plain_runs.specs.Elsewhere.{IsElse}
 use Rattle.plain_runs.specs.Alone.{IsAtMark}
 use Rattle.plain_runs.specs.Shows.{IsWithin, ShowsLot, ShowsTab}
 use Rattle.plain_runs.specs.Words.{IsOfOffer, KnowsLot, Lot, ShowsEntryIf, no_guests, setting_of}
@@ -48,9 +52,22 @@ use Rattle.plain_runs.proofs.Frames.{knows_same}
 use Rattle.plain_runs.proofs.LotLines.{IsOfLot, LotServed, lot_line}
 use Rattle.plain_runs.proofs.LotRequests.{IsFitting}
 use Rattle.plain_runs.proofs.Marks.{SeesMore, free_still, has_still, leaves_all}
+use Rattle.plain_runs.proofs.OtherLines.{other_request}
 use Rattle.plain_runs.proofs.OwnAnchors.{OwnsLot, lot_stays}
 use Rattle.plain_runs.proofs.Renamings.{Agrees, newest_on}
 use Rattle.plain_runs.proofs.ShowingOthers.{OneBegins, reading_shows, writing_shows}
+
+-- The lot fits still where a pass knows more, and the plain store is the same.
+fits_on : (g : Ground (List ℕ)) (lot : Lot) (cap rename : ℕ → ℕ) (v w : View (List ℕ)) (plain : Plain) → GrowsTo v w → IsFitting g lot cap rename v plain → IsFitting g lot cap rename w plain
+fits_on g lot cap rename v w plain grows fit = record {
+  fits_is = fit.fits_is;
+  apart = fit.apart;
+  room = fit.room;
+  counts = fit.counts;
+  is = fit.is;
+  least = fit.least;
+  newest = newest_on g rename v w plain.counter (knows_all grows).trail fit.newest;
+}
 
 module _ {C O : Type 0} (tells : Bool) (state : C → CellState) (offers : O → Offers) (s : Store C O) (begins : OneBegins) (stays : Stays tells state offers s) (rename : ℕ → ℕ) (lot : Lot) (p q : Pass C) (plain : Plain) (more : SeesMore tells state offers s p q)
     (owns : OwnsLot (basis tells state offers s) lot (view p).pass) (h : ShowsLot tells state offers s rename p plain lot) where
@@ -94,15 +111,7 @@ module _ {C O : Type 0} (tells : Bool) (state : C → CellState) (offers : O →
   }
 
   pub fits_more : (cap : ℕ → ℕ) → IsFitting g lot cap rename (view p) plain → IsFitting g lot cap rename (view q) plain
-  fits_more cap fit = record {
-    fits_is = fit.fits_is;
-    apart = fit.apart;
-    room = fit.room;
-    counts = fit.counts;
-    is = fit.is;
-    least = fit.least;
-    newest = newest_on g rename (view p) (view q) plain.counter (knows_all kept.keeps).trail fit.newest;
-  }
+  fits_more cap fit = fits_on g lot cap rename (view p) (view q) plain kept.keeps fit
 
 module _ {C O St : Type 0} (tells : Bool) (state : C → CellState) (offers : O → Offers) (faults : St → ℕ) (s : Store C O) (script : List Line) (lot : Lot) (cap : ℕ → ℕ) (whole : lot.tabs whole_tab ≡ true) (begins : OneBegins) (stays : Stays tells state offers s)
     (known : IsTrue tells) (file : HoldsFile (basis tells state offers s)) (from : IsFromFront) (sized : (basis tells state offers s).slot < 4294967296) (these : Line → Bool) (start : Pass C) (owns : OwnsLot (basis tells state offers s) lot (view start).pass) where
@@ -120,13 +129,14 @@ module _ {C O St : Type 0} (tells : Bool) (state : C → CellState) (offers : O 
     pub free : IsFree now.pass whole_tab
     pub fit : IsFitting ground lot cap names (view now.pass) plain
 
-  -- Of a line, what is known of it by itself: it is one of these, on the lot, or it is at a mark.
+  -- Of a line, what is known of it by itself: it is one of these, on the lot, or it is elsewhere or at a mark.
   pub record IsFairOn (x : Stage (OnShelf C O St)) : Type 0 where
     pub step : IsStep tells state offers faults x
     pub takes : IsServed x.line.request → Takes tells state offers s start x.line
     pub fair : is_fault x.answer ≡ false
     pub some : (versions : ℕ) → x.answer ≢ answer.Spent versions
-    pub sorted : ((these x.line ≡ true) × IsServed x.line.request × IsOfLot S lot x.line.request) ⊎ ((these x.line ≡ false) × IsAtMark x.line.request)
+    pub sorted : ((these x.line ≡ true) × IsServed x.line.request × IsOfLot S lot x.line.request)
+        ⊎ ((these x.line ≡ false) × (IsAtMark x.line.request ⊎ (IsServed x.line.request × IsElse tells state offers s lot x.line.request)))
     pub needs : (b : ℕ) → need_at S b x.line.request ≤ cap b
 
   module _ (rename : ℕ → ℕ) (x : Stage (OnShelf C O St)) (plain : Plain) (r : ReachedLot rename x.before plain) (h : IsFairOn x) where
@@ -171,13 +181,37 @@ module _ {C O St : Type 0} (tells : Bool) (state : C → CellState) (offers : O 
           };
         }
 
-    one_served : (offers_body x.line.request ≡ true → plain.counter < 4294901760) → IsServed x.line.request → IsOfLot S lot x.line.request → OneServed
-    one_served below asked of = goes x.line.request refl asked h.step
+    -- what a line came to that is served
+    went_of : IsServed x.line.request → Went tells state offers faults x.before x.line x.answer x.after
+    went_of asked = goes x.line.request asked h.step
       where
-        goes : (request : Request) → x.line.request ≡ request → IsServed request → StepOn tells state offers faults request x.before x.line x.answer x.after → OneServed
-        goes (Mark mark) is served step = absurd served
-        goes (Await mark) is served step = absurd served
-        goes request is served step = served_lot below asked of step
+        goes : (request : Request) → IsServed request → StepOn tells state offers faults request x.before x.line x.answer x.after → Went tells state offers faults x.before x.line x.answer x.after
+        goes (Mark mark) served step = absurd served
+        goes (Await mark) served step = absurd served
+        goes request served step = step
+
+    one_served : (offers_body x.line.request ≡ true → plain.counter < 4294901760) → IsServed x.line.request → IsOfLot S lot x.line.request → OneServed
+    one_served below asked of = served_lot below asked of (went_of asked)
+
+    -- A line elsewhere leaves the lot.
+    one_else : IsServed x.line.request → IsElse tells state offers s lot x.line.request → ReachedLot rename x.after plain
+    one_else asked else_where = record {
+      store = went.store ∙ r.store;
+      number = (serves.leaves t.0 t.1).keeps.pass ∙ r.number;
+      shows = other_request tells state offers s begins stays rename lot x.before.pass x.after.pass plain own_here r.shows r.fit.apart r.fit.fits_is x.line.number x.answer x.line.request whole free_here
+          else_where serves.request serves.leaves;
+      free = whole_stays tells state offers s x.line.number x.before.pass x.answer x.after.pass x.line.request (h.takes asked).asks serves.request serves.leaves r.free;
+      fit = fits_on ground lot cap rename (view x.before.pass) (view x.after.pass) plain (serves.leaves t.0 t.1).keeps r.fit;
+    }
+      where
+        went : Went tells state offers faults x.before x.line x.answer x.after
+        went = went_of asked
+
+        serves : Serves tells state offers s x.line x.before.pass x.answer x.after.pass (faults x.before.station) (faults x.after.station)
+        serves = subst (λ (z : Store C O). Serves tells state offers z x.line x.before.pass x.answer x.after.pass (faults x.before.station) (faults x.after.station)) r.store went.serves
+
+        t : (tab : ℕ) × UsesTab x.line.request tab
+        t = uses x.line.request asked
 
     -- A line at a mark leaves the lot.
     sees_noted : (before after : OnShelf C O St) (note : Note C) → before.store ≡ s → Noted tells state offers before note after → SeesMore tells state offers s before.pass after.pass
@@ -236,9 +270,9 @@ module _ {C O St : Type 0} (tells : Bool) (state : C → CellState) (offers : O 
     reached = rw is rest.reached;
   }
 
-  -- one at a mark
-  with_mark : (rename : ℕ → ℕ) (x : Stage (OnShelf C O St)) (stages : List (Stage (OnShelf C O St))) (end : OnShelf C O St) (plain : Plain) → these x.line ≡ false → AllServed rename stages end plain → AllServed rename (x ∷ stages) end plain
-  with_mark rename x stages end plain is rest = record { names = rest.names; agrees = rest.agrees; answered = rw is rest.answered; reached = rw is rest.reached }
+  -- one elsewhere, or at a mark
+  with_other : (rename : ℕ → ℕ) (x : Stage (OnShelf C O St)) (stages : List (Stage (OnShelf C O St))) (end : OnShelf C O St) (plain : Plain) → these x.line ≡ false → AllServed rename stages end plain → AllServed rename (x ∷ stages) end plain
+  with_other rename x stages end plain is rest = record { names = rest.names; agrees = rest.agrees; answered = rw is rest.answered; reached = rw is rest.reached }
 
   pub all_served : (rename : ℕ → ℕ) (stages : List (Stage (OnShelf C O St))) (now end : OnShelf C O St) (plain : Plain) → Linked now stages end → ((x : Stage (OnShelf C O St)) → Contains stages x → IsFairOn x)
       → plain.counter + offers_in (filter these (map (λ x. x.line) stages)) ≤ 4294901760 → ReachedLot rename now plain → AllServed rename stages end plain
@@ -268,8 +302,10 @@ module _ {C O St : Type 0} (tells : Bool) (state : C → CellState) (offers : O 
       then_below is = let k = with_this is in let split = offers_cons x.line left in let grew = counter_by S x.line plain (serve S script x.line plain) (effect S script x.line plain) in omega arith
 
       of_line : ((names : ℕ → ℕ) (next : Plain) → next.counter + offers_in left ≤ 4294901760 → ReachedLot names x.after next → AllServed names stages end next)
-          → ((these x.line ≡ true) × IsServed x.line.request × IsOfLot S lot x.line.request) ⊎ ((these x.line ≡ false) × IsAtMark x.line.request) → AllServed rename (x ∷ stages) end plain
+          → ((these x.line ≡ true) × IsServed x.line.request × IsOfLot S lot x.line.request)
+          ⊎ ((these x.line ≡ false) × (IsAtMark x.line.request ⊎ (IsServed x.line.request × IsElse tells state offers s lot x.line.request))) → AllServed rename (x ∷ stages) end plain
       of_line rest (inl (is, asked, of)) =
           let one = one_served rename x plain here h (now_below is) asked of in
           with_one rename x stages end plain here h is one (rest one.names (serve S script x.line plain).after (then_below is) one.reached)
-      of_line rest (inr (is, mark)) = with_mark rename x stages end plain is (rest rename plain (without is) (at_mark rename x plain here h mark))
+      of_line rest (inr (is, inl mark)) = with_other rename x stages end plain is (rest rename plain (without is) (at_mark rename x plain here h mark))
+      of_line rest (inr (is, inr (asked, else_where))) = with_other rename x stages end plain is (rest rename plain (without is) (one_else rename x plain here h asked else_where))

@@ -3,10 +3,7 @@ use Rattle.std.proofs.Common.{Bool, Contains, List, [], ap, arith, cond, false, 
 use Rattle.std.specs.Prelude.{IsTrue, count_by, min}
 use Rattle.std.specs.List.{range_with_len}
 use Rattle.std.specs.Global.{Vec}
-use Rattle.std.proofs.lemmas.List.{length-map}
 use Rattle.std.proofs.lemmas.List.Sums.{sum_by-cons}
-use mathlib.Core.Option.{some}
-use lib.ListN.{get_elem?}
 use Rattle.rock_disk.specs.Cell.{CellState}
 use Rattle.rock_disk.specs.Opened.{AreSlots}
 use Rattle.entry_cut.specs.Content.{room_of}
@@ -21,7 +18,6 @@ use Rattle.store_rule.specs.declared.store.Store.{Store}
 use Rattle.store_rule.specs.Closing.{Closed}
 use Rattle.store_rule.specs.Ground.{Ground, Offers}
 use Rattle.store_rule.specs.Passes.{basis, view}
-use Rattle.store_rule.proofs.Passing.{pass_of}
 use Rattle.rock_open.specs.Opening.{IsStoreOver}
 use Rattle.worker_pool.specs.Courses.{At, Stage}
 use Rattle.worker_pool.specs.Running.{Account}
@@ -30,16 +26,18 @@ use Rattle.store_serve.specs.Whole.{whole_tab}
 use Rattle.worker_shelf.specs.Shelves.{LeftBelow, OnShelf}
 use Rattle.worker_shelf.proofs.Holding.{Stays}
 use Rattle.worker_shelf.specs.Playing.{HasSteps, IsPlayed, fault_answers}
-use Rattle.plain_runs.specs.Words.{setting_of}
+use Rattle.plain_runs.specs.Words.{setting_of, whole_lot}
+use Rattle.plain_runs.proofs.OwnAnchors.{lot_lone}
 use Rattle.plain_runs.proofs.ShowingOthers.{OneBegins}
 use Rattle.plain_runs.specs.Ends.{HoldsWhole}
 use Rattle.plain_runs.proofs.AtAnchors.{OneKept}
 use Rattle.plain_runs.proofs.Awaits.{IsOwnLine, awaits_alike, served_line, served_lines}
 use Rattle.plain_runs.proofs.Courses.{AllRight, IsFair, Reached, all_right}
-use Rattle.plain_runs.proofs.Ends.{PlacedPieces, holds_whole, home_as}
+use Rattle.plain_runs.proofs.Ends.{PlacedPieces}
 use Rattle.plain_runs.proofs.Leaving.{leaves_all}
+use Rattle.plain_runs.proofs.LotEnds.{entries_there, image_at}
 use Rattle.plain_runs.proofs.Lines.{GivesFronts, GivesWholes, LinesRight, lines_right}
-use Rattle.plain_runs.proofs.Opened.{HoldsKept, as_many, has_versions, holds_file, new_free, shows_opened, tells_pieces}
+use Rattle.plain_runs.proofs.Opened.{HoldsKept, holds_file, new_free, shows_opened}
 use Rattle.plain_runs.specs.Runs.{IsPlainRun, Numbered, ShowsPlain, setting_over}
 
 -- where none is counted, none is so
@@ -51,11 +49,6 @@ none_counted f (y ∷ xs) none x (zero, lt, e) = first (f y) refl
     first false is = ap f (sym e) ∙ is
     first true is = absurd (let sum = sum_by-cons (λ z. cond (f z) 1 0) y xs in let one : ◌≡◌ {A = ℕ} (cond (f y) 1 0) 1 = ap (λ (b : Bool). cond b 1 0) is in omega arith)
 none_counted f (y ∷ xs) none x (suc i, lt, e) = none_counted f xs (let sum = sum_by-cons (λ z. cond (f z) 1 0) y xs in omega arith) x (i, omega arith, e)
-
--- the first of a list of images is the image of the first
-first_image : {X Y : Type 0} (f : X → Y) (xs : List X) (x : X) → At xs 0 x → get_elem? (map f xs) 0 ≡ some (f x)
-first_image f [] x h = absurd (let z = h.0 in omega arith)
-first_image f (y ∷ xs) x h = ap (λ z. some (f z)) h.1
 
 module _ {C O St : Type 0} (tells : Bool) (state : C → CellState) (offers : O → Offers) (faults : St → ℕ) (slot anchors : ℕ) (origin : O) (cells : List C) (s : Store C O) (ps : Vec (Pass C))
     (over : IsStoreOver tells state offers slot anchors 1 origin cells s ps) (told : IsTrue tells) (as_wide : (c : C) → IsTrue tells → length (state c).now ≡ (state c).width)
@@ -110,18 +103,10 @@ module _ {C O St : Type 0} (tells : Bool) (state : C → CellState) (offers : O 
 
     module _ (accounts : List (Account (OnShelf C O St))) (at : At accounts 0 a) (left : List C) (closed : Closed tells state g (map (λ b. view b.end.pass) accounts) left) where
       held : HoldsWhole g.slot g.setting.anchors (map (λ c. (state c).now) left) (left_by (setting_of g) script 1 plain)
-      held = let gathered = closed.gathered in
-          holds_whole g over.passes_are gathered.state (gathered.index 0) (view a.end.pass) gathered.rule
-          (gathered.at 0 (view a.end.pass) (first_image (λ (b : Account (OnShelf C O St)). view b.end.pass) accounts a at)) (pass_of a.end.pass)
-          (tells_pieces tells state offers slot anchors 1 origin cells s ps over told)
-          (has_versions tells state offers slot anchors 1 origin cells s ps over told as_wide slots one)
-          (map (λ c. (state c).now) left)
-          (home_as tells state told g gathered.state left closed.many closed.home)
-          (as_many tells state offers slot anchors 1 origin cells s ps over told)
-          (let z = slots.size.to in let e = over.slot_is in omega arith)
-          (let z = slots.few in let e = over.slots_are in let n = length-map cells state in omega arith)
-          placed
-          (left_by (setting_of g) script 1 plain) left_shown.knows left_shown.eight
+      held = let there = entries_there tells state offers slot anchors 1 origin cells s ps over told as_wide slots one placed (λ v. v) whole_lot 0 a.end.pass (left_by (setting_of g) script 1 plain)
+          (map (λ b. view b.end.pass) accounts) left closed (image_at (λ (b : Account (OnShelf C O St)). view b.end.pass) accounts 0 a at)
+          (lot_lone g over.passes_are whole_lot (view a.end.pass).pass) left_shown in
+          λ a e lt whole_entry whole. there a e lt refl whole_entry whole
 
       pub plain_run : IsPlainRun tells state offers s slot anchors (length cells) script plain a left
       plain_run = record {

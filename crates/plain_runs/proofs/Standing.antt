@@ -1,5 +1,5 @@
--- A whole entry of the plain store that a pass shows, at an anchor that is the pass's own, stands closed in the state.
-use Rattle.std.proofs.Common.{Bool, List, ap, arith, length, refl, subst, sym, ◌-◌, ◌<◌, ◌∙◌, ◌≡◌, ◌≤◌, ℕ}
+-- A whole entry of the plain store of which a pass shows a lot, at an anchor of it that is the pass's own, stands closed in the state.
+use Rattle.std.proofs.Common.{Bool, List, ap, arith, length, refl, subst, sym, true, ◌-◌, ◌<◌, ◌∙◌, ◌≡◌, ◌≤◌, ℕ}
 use Rattle.std.specs.Prelude.{Option, Some}
 use mathlib.Core.Option.{some}
 use mathlib.Core.Logic.{dite}
@@ -32,12 +32,12 @@ use Rattle.store_rule.specs.Told.{Stands}
 use Rattle.store_rule.proofs.Passing.{pass_of}
 use Rattle.plain_runs.specs.Ends.{SpellsOpened, StandsClosed}
 use Rattle.plain_runs.specs.Runs.{ShowsPlain}
-use Rattle.plain_runs.specs.Words.{IsLone, Knows, ShowsEntry, ShowsEntryIf, no_guests, setting_of}
+use Rattle.plain_runs.specs.Words.{IsLone, Knows, KnowsLot, Lot, ShowsEntry, ShowsEntryIf, no_guests, setting_of, whole_lot}
 use Rattle.plain_runs.proofs.OwnAnchors.{OwnsAnchor, owns_lone}
 use Rattle.plain_runs.proofs.PlainWords.{doom_there, readers_fit, stage_there, version_there}
 
-module _ (g : Ground (List ℕ)) (v : View (List ℕ)) (st : Stands g v) (pass : IsPass v)
-    (p : Plain) (knows : Knows g (λ v. v) v p no_guests) (eight : length p.tabs ≡ 8) (a : ℕ) (own : OwnsAnchor g v.pass a) (e : Entry) (lt : a < g.setting.anchors) (there : entry_at p a ≡ Some e) (whole : e.life ≡ Whole) where
+module _ (g : Ground (List ℕ)) (rename : ℕ → ℕ) (lot : Lot) (v : View (List ℕ)) (st : Stands g v) (pass : IsPass v)
+    (p : Plain) (knows : KnowsLot g rename lot v p no_guests) (eight : length p.tabs ≡ 8) (a : ℕ) (own : OwnsAnchor g v.pass a) (e : Entry) (lt : a < g.setting.anchors) (ours : lot.anchors a ≡ true) (there : entry_at p a ≡ Some e) (whole : e.life ≡ Whole) where
   abbrev s : State (List ℕ)
   s = st.state
 
@@ -49,20 +49,20 @@ module _ (g : Ground (List ℕ)) (v : View (List ℕ)) (st : Stands g v) (pass :
 
   pub stage_is : stage_of (epoch_of (word s a)) ≡ 3
   stage_is = ap (λ (n : ℕ). stage_of (epoch_of n)) word_there
-      ∙ stage_there (λ v. v) (setting_of g) p 0 a (has g v (Anchor a)) (knows.each a lt refl).word (readers_fit p a 0 eight (omega arith))
+      ∙ stage_there rename (setting_of g) p 0 a (has g v (Anchor a)) (knows.each a lt ours).word (readers_fit p a 0 eight (omega arith))
       ∙ ap (λ (o : Option Entry). stage_number (stage_of_place (room_of g.slot) (place_at p a).version o)) there
       ∙ ap (λ (life : Life). stage_number (stage_of_entry (room_of g.slot) life e.content)) whole
 
-  pub version_stands : version_of (epoch_of (word s a)) ≡ (place_at p a).version
+  pub version_stands : version_of (epoch_of (word s a)) ≡ rename (place_at p a).version
   version_stands = ap (λ (n : ℕ). version_of (epoch_of n)) word_there
-      ∙ version_there (λ v. v) (setting_of g) p 0 a (has g v (Anchor a)) (knows.each a lt refl).word (readers_fit p a 0 eight (omega arith))
+      ∙ version_there rename (setting_of g) p 0 a (has g v (Anchor a)) (knows.each a lt ours).word (readers_fit p a 0 eight (omega arith))
 
   doom_stands : doom_of (epoch_of (word s a)) ≡ doom_number (place_at p a).doom
   doom_stands = ap (λ (n : ℕ). doom_of (epoch_of n)) word_there
-      ∙ doom_there (λ v. v) (setting_of g) p 0 a (has g v (Anchor a)) (knows.each a lt refl).word (readers_fit p a 0 eight (omega arith))
+      ∙ doom_there rename (setting_of g) p 0 a (has g v (Anchor a)) (knows.each a lt ours).word (readers_fit p a 0 eight (omega arith))
 
   pub entry_shown : ShowsEntry g v a (place_at p a).version e
-  entry_shown = subst (ShowsEntryIf g v a (place_at p a).version) there (knows.each a lt refl).entry
+  entry_shown = subst (ShowsEntryIf g v a (place_at p a).version) there (knows.each a lt ours).entry
 
   pub offer_stands : side_word g.setting s Offer a ≡ e.offer
   offer_stands = own.stands v st (Beside Offer a) refl pass refl lt ∙ entry_shown.names.offer
@@ -88,15 +88,17 @@ module _ (g : Ground (List ℕ)) (v : View (List ℕ)) (st : Stands g v) (pass :
     body_is = o.body_is;
   }
 
-  pub stands_closed : StandsClosed g s p a e
-  stands_closed = record {
-    stage = stage_is;
-    doom = λ none. doom_stands ∙ ap doom_number none;
-    version = version_stands;
-    offer = offer_stands;
-    old = spelled;
-    new = λ high. let o = entry_shown.offer.response.new high in (o.url_is, o.body_is);
-  }
+-- Where the pass shows the whole store and each version stands for itself, the entry stands closed with its own.
+stands_closed : (g : Ground (List ℕ)) (v : View (List ℕ)) (st : Stands g v) (pass : IsPass v) (p : Plain) (knows : Knows g (λ v. v) v p no_guests) → length p.tabs ≡ 8 → (a : ℕ) → OwnsAnchor g v.pass a → (e : Entry) → a < g.setting.anchors
+    → entry_at p a ≡ Some e → e.life ≡ Whole → StandsClosed g st.state p a e
+stands_closed g v st pass p knows eight a own e lt there whole = record {
+  stage = stage_is g (λ v. v) whole_lot v st pass p knows eight a own e lt refl there whole;
+  doom = λ none. doom_stands g (λ v. v) whole_lot v st pass p knows eight a own e lt refl there whole ∙ ap doom_number none;
+  version = version_stands g (λ v. v) whole_lot v st pass p knows eight a own e lt refl there whole;
+  offer = offer_stands g (λ v. v) whole_lot v st pass p knows eight a own e lt refl there whole;
+  old = spelled g (λ v. v) whole_lot v st pass p knows eight a own e lt refl there whole;
+  new = λ high. let o = (entry_shown g (λ v. v) whole_lot v st pass p knows eight a own e lt refl there whole).offer.response.new high in (o.url_is, o.body_is);
+}
 
 -- So it does when a store with one pass was closed.
 module _ {C O : Type 0} (tells : Bool) (state : C → CellState) (offers : O → Offers) (s : Store C O) (p : Pass C) (plain : Plain) (views : List (View (List ℕ))) (left : List C)

@@ -1,5 +1,5 @@
 -- What the file holds that a store gives back: the responses of its closed entries.
-use Rattle.std.specs.Prelude.{List, None, Some, false, length, slice_index_or, ◌-◌, ◌<◌, ◌≡◌, ◌≤◌, ℕ}
+use Rattle.std.specs.Prelude.{Bool, List, None, Some, false, length, slice_index_or, true, ◌-◌, ◌<◌, ◌≡◌, ◌≤◌, ℕ}
 use Rattle.store_key.specs.Anchor.{anchor_of}
 use Rattle.lock_word.specs.Words.{doom_of, epoch_of, stage_of, version_of}
 use Rattle.rebuild_model.specs.Entry.{Entry, IsComplete}
@@ -69,3 +69,8 @@ pub record StandsClosed (g : Ground (List ℕ)) (s : State (List ℕ)) (p : Plai
 -- They have each entry of the plain store that is whole.
 abbrev pub HoldsWhole : (slot anchors : ℕ) → List (List ℕ) → Plain → Type 0
 HoldsWhole slot anchors images p = (a : ℕ) (e : PlainEntry) → a < anchors → entry_at p a ≡ Some e → e.life ≡ Whole → HoldsEntry slot anchors images a (place_at p a).version e
+
+-- They have each entry of the plain store that is whole and at one of these anchors, with the version that stands for its own.
+abbrev pub HoldsWholeAt : (slot anchors : ℕ) → List (List ℕ) → (here : ℕ → Bool) → (rename : ℕ → ℕ) → Plain → Type 0
+HoldsWholeAt slot anchors images here rename p = (a : ℕ) (e : PlainEntry) → a < anchors → here a ≡ true → entry_at p a ≡ Some e → e.life ≡ Whole
+    → HoldsEntry slot anchors images a (rename (place_at p a).version) e

@@ -15,7 +15,6 @@ ghost use Rattle.plain_model.specs.declared.store.Plain.{Plain};
 ghost use Rattle.plain_model.specs.Opening.{IsOpened};
 ghost use Rattle.plain_model.specs.Serving.{lines_for};
 ghost use Rattle.plain_laws.specs.Fitting.{Fits};
-ghost use Rattle.plain_laws.specs.Private.{IsServedAlone};
 ghost use Rattle.plain_model.specs.declared.entry.Entry.{Entry as PlainEntry};
 ghost use Rattle.plain_model.specs.declared.entry.Life.TheVariants.{Whole};
 ghost use Rattle.plain_model.specs.Store.{entry_at, word_at};
@@ -32,6 +31,7 @@ ghost use Rattle.crew_accounts.specs.Playing.{HasRun};
 ghost use Rattle.plain_runs.specs.Words.{IsLone, setting_of};
 ghost use Rattle.plain_runs.specs.Ends.{SpellsResponse, StandsClosed};
 ghost use Rattle.plain_runs.specs.Alone.{IsAloneAtItsAnchors};
+ghost use Rattle.plain_runs.specs.PrivateRuns.{IsPrivateRun, left_private};
 ghost use Rattle.plain_runs.specs.Runs.{IsPlainRun, Numbered, ShowsPlain, setting_over};
 
 use crew_accounts::faults_are_counted;
@@ -111,25 +111,30 @@ pub fn lone_runs_are_plain<C: Cell, O: Origin, St: Station<C = C>>()
     faults_are_counted::<C, O, St>();
 }
 
-/// In a store that fits, a worker that is alone at the anchors that its lines name, and whose station met no fault, is
-/// answered as by each plain store that is opened on the images of the cells, but for versions, however many passes the
-/// store has. Each of its lines is private to it and names no anchor but those that are left to its pass, or is at a mark,
-/// and none was answered that no version is left.
+/// In a store that fits, the private lines of a worker whose station met no fault are answered as by each plain store that
+/// is opened on the images of the cells, but for versions, however many passes the store has. When the store was closed,
+/// each private anchor that is left to its pass had the word of what these lines leave of the plain store, and the cells
+/// that were left hold each whole entry of that there, but for versions. Each private line names no anchor but those that
+/// are left to its pass, each of its tabs is opened at private anchors alone or at others alone, and none of its lines was
+/// answered that no version is left.
 pub fn private_runs_are_plain<C: Cell, O: Origin, St: Station<C = C>>()
     ensures { (slot anchors passes : ℕ) (origin : O) (cells left : List C) (s : Store C O) (ps : Vec (Pass C)) (script : List Line)
         (accounts : List (Account (OnShelf C O St))) (w : ℕ) (a : Account (OnShelf C O St)) (plain : Plain) → IsTrue C.tells
         → AreSlots slot (map C.state cells) → IsStoreOver C.tells C.state O.offers slot anchors passes origin cells s ps
-        → Numbered 0 script → HasRun C.tells C.state O.offers St.faults s script accounts left → At accounts w a
+        → Numbered 0 script → (run : HasRun C.tells C.state O.offers St.faults s script accounts left) → At accounts w a
         → St.faults a.end.station ≡ 0 → IsOpened slot (map (λ c. (C.state c).now) cells) anchors plain
         → 0 < anchors → ((x : Stage (OnShelf C O St)) → Contains a.stages x → (versions : ℕ) → x.answer ≢ Answer.Spent versions)
         → IsAloneAtItsAnchors (basis C.tells C.state O.offers s) script (w + 1) w
         → Fits (setting_over slot anchors (length cells)) (lines_for (w + 1) script) plain
-        → IsServedAlone (setting_over slot anchors (length cells)) script (w + 1) plain (map (λ x. x.answer) a.stages) }
+        → IsPrivateRun slot (setting_over slot anchors (length cells)) script (w + 1) plain (map (λ x. x.answer) a.stages)
+        (left_private (basis C.tells C.state O.offers s) script (w + 1) w)
+        (left_private (basis C.tells C.state O.offers s) script (w + 1) w) (word run.closed.gathered.state) (map (λ c. (C.state c).now) left) }
 {
     one_entry_at_a_slot();
     one_winner_at_an_anchor();
     bodies_are_given_from_the_front();
     opened_stores_hold_their_files();
+    placed_pieces_are_an_entry();
     requests_keep_other_tabs::<C, O>();
     faults_are_counted::<C, O, St>();
 }

@@ -1,6 +1,6 @@
 -- The anchors that a worker alone names are left to its pass.
-use Rattle.std.proofs.Common.{Bool, Contains, List, [], ap, arith, cond, eq-eqb, false, inl, inr, refl, suc, sym, true, zero, ⊎_elim, ◌+◌, ◌-◌, ◌==◌}
-use Rattle.std.proofs.Common.{◌∙◌, ◌∷◌, ◌≡◌, ◌⊎◌, ℕ}
+use Rattle.std.proofs.Common.{Bool, Contains, List, [], ap, arith, cond, eq-eqb, false, refl, suc, sym, true, zero, ◌+◌, ◌-◌, ◌==◌}
+use Rattle.std.proofs.Common.{◌∙◌, ◌∷◌, ◌≡◌, ℕ}
 use Rattle.std.specs.List.{filter, list_all}
 use Rattle.std.specs.Prelude.{None, Option, Some, not, ◌&&◌, ◌||◌}
 use Rattle.std.proofs.lemmas.Bool.{and_from, and_parts, eqb-true, false≢true}
@@ -16,6 +16,7 @@ use Rattle.plain_laws.specs.Private.{is_of, is_private, is_private_anchor, is_pr
 use Rattle.store_rule.specs.Ground.{Ground, alone_of, fits, is_that, left_to}
 use Rattle.rock_run.specs.Leaving.{leaves_to, names_at, pass_of_all}
 use Rattle.rock_run.specs.Offered.{offers_of}
+use Rattle.run_rules.specs.Private.{is_own_anchor}
 
 -- a line of a list that passes a test is among those that do
 kept_in : (test : Line → Bool) (lines : List Line) (line : Line) → test line ≡ true → Contains lines line → Contains (filter test lines) line
@@ -28,6 +29,30 @@ kept_in test (x ∷ xs) line so among = by_test (test x) refl (kept_in test xs l
     by_test true t rest (suc k, lt, is) = let h = rest (k, omega arith, is) in (suc h.0, (let lower = h.1 in omega arith), h.2)
     by_test false t rest (zero, lt, is) = absurd (false≢true (sym t ∙ ap test is ∙ so))
     by_test false t rest (suc k, lt, is) = rest (k, omega arith, is)
+
+-- a line at which a test fails
+record FailsAt (test : Line → Bool) (lines : List Line) : Type 0 where
+  line : Line
+  among : Contains lines line
+  fails : test line ≡ false
+
+fails_at : (test : Line → Bool) (lines : List Line) → list_all test lines ≡ false → FailsAt test lines
+fails_at test [] e = absurd (false≢true (sym e))
+fails_at test (x ∷ xs) e = by_test (test x) refl (fails_at test xs)
+  where
+    by_test : (b : Bool) → test x ≡ b → (list_all test xs ≡ false → FailsAt test xs) → FailsAt test (x ∷ xs)
+    by_test true t behind =
+        let rest = behind (sym (ap (λ (b : Bool). b && list_all test xs) t) ∙ e) in
+        record { line = rest.line; among = (suc rest.among.0, (let lower = rest.among.1 in omega arith), rest.among.2); fails = rest.fails }
+    by_test false t behind = record { line = x; among = (0, omega arith, refl); fails = t }
+
+not_false : (b : Bool) → not b ≡ true → b ≡ false
+not_false true e = absurd (false≢true e)
+not_false false e = refl
+
+not_true : (b : Bool) → not b ≡ false → b ≡ true
+not_true true e = refl
+not_true false e = absurd (false≢true (sym e))
 
 module _ (s : Setting) (script : List Line) (w : ℕ) where
   -- the lines of a worker are all of one pass
@@ -57,6 +82,17 @@ module _ (s : Setting) (script : List Line) (w : ℕ) where
             let at : names_at s.anchors a request ≡ (url_anchor s url == a) = rw e refl in
             let test : names_only s (λ b. not (b == a)) request ≡ not (url_anchor s url == a) = rw e refl in
             test ∙ ap not (sym at ∙ named)
+
+    -- and one that names not only others names it
+    names_it : (request : Request) → names_only s (λ b. not (b == a)) request ≡ false → names_at s.anchors a request ≡ true
+    names_it request e = by_url (url_in request) refl
+      where
+        by_url : (o : Option (List ℕ)) → url_in request ≡ o → names_at s.anchors a request ≡ true
+        by_url None is = let all : names_only s (λ b. not (b == a)) request ≡ true = rw is refl in absurd (false≢true (sym e ∙ all))
+        by_url (Some url) is =
+            let at : names_at s.anchors a request ≡ (url_anchor s url == a) = rw is refl in
+            let test : names_only s (λ b. not (b == a)) request ≡ not (url_anchor s url == a) = rw is refl in
+            at ∙ not_true (url_anchor s url == a) (sym test ∙ e)
 
     -- so it is the worker's own, where the anchor is private to that
     own_line : (line : Line) → (line.worker == w + 1 || names_others line) ≡ true → names line ≡ true → (line.worker == w + 1) ≡ true
@@ -144,3 +180,10 @@ module _ (s : Setting) (script : List Line) (w : ℕ) where
             let named : names_at s.anchors (url_anchor s url) line.request ≡ (url_anchor s url == url_anchor s url) = rw e refl in
             let named_is : names_at s.anchors (url_anchor s url) line.request ≡ true = named ∙ eq-eqb (url_anchor s url) (url_anchor s url) refl in
             left_there ∙ left_is (url_anchor s url) (left_alone (url_anchor s url) line among named_is (sym private_there ∙ names_private))
+
+    -- so are the anchors that the worker alone names
+    pub own_left : (a : ℕ) → is_own_anchor s script (w + 1) a ≡ true → left_to g w a ≡ true
+    own_left a own =
+        let parts = and_parts (is_private_anchor s script (w + 1) a) (not (list_all (names_others a) script)) own in
+        let named = fails_at (names_others a) script (not_false (list_all (names_others a) script) parts.1) in
+        left_is a (left_alone a named.line named.among (names_it a named.line.request named.fails) parts.0)

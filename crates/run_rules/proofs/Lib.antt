@@ -19,3 +19,7 @@ mod Suiting
 mod LeftAlone
 mod Unspent
 mod Private
+mod Unnamed
+mod UnnamedLast
+mod PrivateAnchors
+pub mod TabsApart

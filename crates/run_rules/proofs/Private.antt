@@ -1,40 +1,44 @@
 -- A worker that is alone at its anchors is answered as by a plain store of its own that is opened on the file.
-use Rattle.std.proofs.Common.{All, Bool, [], Contains, IsTrue, List, ap, arith, cond, false, inl, inr, length, map, refl, subst, sym, ⊎_elim, ◌+◌, ◌++◌, ◌<◌, ◌==◌, ◌∙◌, ◌∷◌}
-use Rattle.std.proofs.Common.{◌≡◌, ◌≢◌, ◌≤◌, ◌⊎◌, ℕ, true}
-use Rattle.std.specs.Prelude.{Some, count_by}
+use Rattle.std.proofs.Common.{Bool, [], Contains, IsTrue, List, ap, cond, false, inl, inr, length, map, refl, subst, sym, ⊎_elim, ◌+◌, ◌==◌, ◌∙◌, ◌∷◌}
+use Rattle.std.proofs.Common.{◌≡◌, ◌⊎◌, ℕ, true}
+use Rattle.std.specs.Prelude.{Some}
+use Rattle.std.proofs.lemmas.Bool.{and_from, and_parts}
 use Rattle.std.proofs.lemmas.List.{append_cancel_left, length-map}
 use mathlib.Core.Option.{some, some-injective}
 use lib.ListN.{get_elem?}
 use Rattle.core_model.proofs.SlotsOpened.{map_contains}
-use Rattle.core_model.specs.Anchors.{opening_counter}
+use Rattle.core_model.specs.State.{State, word}
+use Rattle.std.specs.FinMap.{get}
 use Rattle.rock_disk.specs.Cell.{CellState}
 use Rattle.rock_disk.specs.Counts.{Counts}
-use Rattle.rock_disk.specs.File.{File, Files, bytes_of, slots_cut}
+use Rattle.rock_disk.specs.File.{File, Files, bytes_of, rest_cut, slots_cut}
+use Rattle.rock_disk.proofs.Out.{get_inserted}
 use Rattle.entry_cut.specs.Content.{room_of}
-use Rattle.script_text.specs.Requests.{offers_body}
 use Rattle.script_text.specs.declared.answer.Answer.{Answer}
 use Rattle.script_text.specs.declared.answer.Answer.TheVariants as answer
 use Rattle.script_text.specs.declared.line.Line.{Line}
 use Rattle.plain_model.specs.declared.store.Plain.{Plain}
 use Rattle.plain_model.specs.declared.store.Setting.{Setting}
 use Rattle.plain_model.specs.Serving.{lines_for}
-use Rattle.plain_laws.specs.Private.{IsServedAlone, is_private, names_only}
-use Rattle.plain_runs.specs.Alone.{IsAloneAtItsAnchors, IsAtMark}
+use Rattle.plain_laws.specs.Private.{is_private_anchor}
+use Rattle.plain_runs.specs.Alone.{AreTabsApart, IsAloneAtItsAnchors}
+use Rattle.plain_runs.specs.PrivateRuns.{IsPrivateRun, left_private}
 use Rattle.plain_runs.specs.Runs.{setting_over}
 use Rattle.plain_runs.specs.Words.{setting_of}
 use Rattle.store_rule.specs.Ground.{Ground, fits, left_to}
 use Rattle.store_rule.specs.Passes.{basis}
-use Rattle.worker_pool.specs.Courses.{At, Stage, lines_from}
+use Rattle.worker_pool.specs.Courses.{Stage, lines_from}
 use Rattle.worker_pool.specs.Running.{Account, answers_of}
 use Rattle.worker_shelf.specs.Shelves.{OnShelf}
 use Rattle.rock_run.specs.Device.{HasEnded}
 use Rattle.rock_run.specs.Offered.{offers_of}
 use Rattle.rock_run.specs.Runs.{HasRun}
-use Rattle.run_rules.specs.Private.{IsAlone, OpensWithRoom}
+use Rattle.run_rules.specs.Plain.{HasCells}
+use Rattle.run_rules.specs.Private.{OpensWithRoom, is_own_anchor}
 use Rattle.run_rules.specs.Runs.{HasImages}
-use Rattle.run_rules.proofs.LeftAlone.{names_left}
+use Rattle.run_rules.proofs.LeftAlone.{names_left, own_left}
 use Rattle.run_rules.proofs.Lists.{IsImage, at_place, both, image}
-use Rattle.run_rules.proofs.Opened.{as_many}
+use Rattle.run_rules.proofs.Opened.{as_many, has_played, same_state}
 use Rattle.run_rules.proofs.Scripts.{of_filter}
 
 -- the counts with which stations were ended are one list
@@ -110,20 +114,51 @@ module _ {C St : Type 0} (volume_tells told : Bool) (state : C → CellState) (f
   setting_is = let over = h.closed.opened.store in
       λ i. record { slots = over.slots_are i; room = room_of (over.slot_is i); anchors = over.anchors_are i }
 
-  -- a worker that is alone at its anchors is so in the store
-  pub alone_there : (w : ℕ) → fits g ≡ true → IsAlone (setting_over slot anchors (length h.closed.opened.cells)) script (w + 1)
+  -- a worker whose tabs are apart is alone in the store at the anchors that its private lines name
+  pub alone_there : (w : ℕ) → fits g ≡ true → AreTabsApart (setting_over slot anchors (length h.closed.opened.cells)) script (w + 1)
       → IsAloneAtItsAnchors g script (w + 1) w
-  alone_there w fit alone = record {
+  alone_there w fit apart = record {
     fits_is = fit;
-    lines = λ line mine. ⊎_elim
-        (λ (mark : IsAtMark line.request). inl mark)
-        (λ (own : is_private (setting_over slot anchors (length h.closed.opened.cells)) script (w + 1) line ≡ true).
-        let own_there : is_private (setting_of g) script (w + 1) line ≡ true =
-        subst (λ (s : Setting). is_private s script (w + 1) line ≡ true) (sym setting_is) own in
-        inr (
-          own_there,
-          names_left (setting_of g) script w g fit refl h.closed.opened.store.offers_are line
-              (of_filter (λ l. l.worker == w + 1) script line mine) mine own_there,
-        ))
-        (alone line mine);
+    lines = λ line mine own. names_left (setting_of g) script w g fit refl h.closed.opened.store.offers_are line
+        (of_filter (λ l. l.worker == w + 1) script line mine) mine own;
+    tabs = subst (λ (s : Setting). AreTabsApart s script (w + 1)) (sym setting_is) apart;
   }
+
+  -- the file that was given back
+  pub cells_back : HasCells left name (map (λ (c : C). (state c).now) h.closed.cells)
+  cells_back = let out = h.closed.opened.out tells in record {
+    header = state h.closed.header;
+    cells = map state h.closed.cells;
+    rest = rest_cut slot (bytes_of out.was);
+    there = ap (λ m. get m name) (h.closed.back tells) ∙ get_inserted h.closed.middle name _;
+    images_are = sym (both state (λ (c : CellState). c.now) h.closed.cells);
+  }
+
+  -- What a worker comes to in the store it comes to in the run, with the answers that are told of it.
+  module _ (w : ℕ) (images : List (List ℕ)) (many : length images ≡ length h.closed.opened.cells) (plain : Plain) where
+    abbrev back : List (List ℕ)
+    back = map (λ (c : C). (state c).now) h.closed.cells
+
+    pub run_over : (given told_to : List Answer) → given ≡ told_to
+        → IsPrivateRun slot (setting_over slot anchors (length h.closed.opened.cells)) script (w + 1) plain given (left_private g script (w + 1) w) (left_private g script (w + 1) w)
+        (word (has_played volume_tells told state faults files left name slot anchors workers script answers before after h).closed.gathered.state) back
+        → IsPrivateRun slot (setting_over slot anchors (length images)) script (w + 1) plain told_to (left_private g script (w + 1) w) (left_private g script (w + 1) w)
+        (word h.closed.closed.gathered.state) back
+    run_over given told_to same run =
+        subst (λ (n : ℕ). IsPrivateRun slot (setting_over slot anchors n) script (w + 1) plain told_to (left_private g script (w + 1) w) (left_private g script (w + 1) w)
+        (word h.closed.closed.gathered.state) back) (sym many)
+        (subst (λ (z : List Answer). IsPrivateRun slot (setting_over slot anchors (length h.closed.opened.cells)) script (w + 1) plain z
+        (left_private g script (w + 1) w) (left_private g script (w + 1) w) (word h.closed.closed.gathered.state) back) same
+        (subst (λ (t : State (List ℕ)). IsPrivateRun slot (setting_over slot anchors (length h.closed.opened.cells)) script (w + 1) plain given
+        (left_private g script (w + 1) w) (left_private g script (w + 1) w) (word t) back)
+        (same_state volume_tells told state faults files left name slot anchors workers script answers before after h) run))
+
+    -- the anchors that it alone names are private to it, and left to its pass
+    pub own_there : fits g ≡ true → (a : ℕ) → is_own_anchor (setting_over slot anchors (length images)) script (w + 1) a ≡ true
+        → left_private g script (w + 1) w a ≡ true
+    own_there fit a mine =
+        let here : is_own_anchor (setting_of g) script (w + 1) a ≡ true = subst (λ (s : Setting). is_own_anchor s script (w + 1) a ≡ true) (sym setting_is)
+        (subst (λ (n : ℕ). is_own_anchor (setting_over slot anchors n) script (w + 1) a ≡ true) many mine) in
+        and_from (left_to g w a) (is_private_anchor (setting_of g) script (w + 1) a)
+        (own_left (setting_of g) script w g fit refl h.closed.opened.store.offers_are a here)
+        (and_parts (is_private_anchor (setting_of g) script (w + 1) a) _ here).0

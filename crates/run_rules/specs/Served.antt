@@ -30,6 +30,6 @@ pub record WasServed (tells : Bool) (before after : Files) (name : List ℕ) (sl
   -- With one worker whose station met no fault the answers, the entries and the words are those of a plain store.
   pub plain : workers ≡ 1 → IsTrue tells → NoneFailedServing counts_before counts_after
       → (plainly : IsAnsweredPlainly before after name slot anchors script answers) × EndedPlainly last plainly
-  -- So are, with any number of workers, the answers to a worker that is alone at its anchors and whose station met no fault, but for the
-  -- numbers of versions, where the script fits into the file.
-  pub private : IsTrue tells → AreAnsweredAlone before name slot anchors workers script answers counts_before counts_after
+  -- So are, with any number of workers, the answers to a worker that is alone at its anchors and whose station met no fault, and the
+  -- entries and the words there, but for the numbers of versions, where the script fits into the file.
+  pub private : IsTrue tells → AreAnsweredAlone before after name slot anchors workers script answers counts_before counts_after last

@@ -18,6 +18,7 @@ ghost use Rattle.run_rules.specs.Fitting.{FitsInto};
 ghost use Rattle.run_rules.specs.Private.{AreAnsweredAlone};
 ghost use Rattle.run_rules.specs.Runs.{IsExplained};
 
+use crate::standing::runs_leave_standing;
 use core_model::idle_stores_are_settled;
 use crashed_stores::{closed_entries_win, finished_entries_last};
 use crew_accounts::{
@@ -26,7 +27,8 @@ use crew_accounts::{
 };
 use line_account::closed_crews_keep_the_rules;
 use plain_laws::{
-    anchors_hold_slots_of_the_file, fitting_scripts_have_room, unwritten_slots_have_no_entry,
+    anchors_hold_slots_of_the_file, fitting_scripts_have_room, stores_begin_at_rest,
+    unwritten_slots_have_no_entry,
 };
 use plain_runs::{
     closed_words_are_plain, lone_runs_are_plain, new_passes_show_plain_stores,
@@ -85,20 +87,24 @@ pub fn lone_runs_are_answered_plainly<C: Cell, St: Station<C = C>>()
 }
 
 /// In a run over a file that the volume tells, each worker that is alone at its anchors, and whose station met no fault, is answered as by
-/// a plain store of its own that is opened on the file, but for the numbers of versions, where the script fits into the file. Each line of
-/// the script has the number behind its place.
+/// a plain store of its own that is opened on the file, but for the numbers of versions, where the script fits into the file. When the
+/// store was closed, its anchors had the words of what its lines leave of that store, and the file that was given back has the whole
+/// entries of that. Each line of the script has the number behind its place.
 pub fn private_lines_are_answered_plainly<C: Cell, St: Station<C = C>>()
     ensures { (tells : Bool) (files left : Files) (name : List ℕ) (slot anchors workers : ℕ) (script : List Line)
         (answers : List (List (ℕ × Answer))) (before after : Counts)
         → IsSlotSize slot → AreInOrder script
-        → HasRun tells C.tells C.state files left name slot anchors workers script St.faults answers before after
-        → IsTrue tells → AreAnsweredAlone files name slot anchors workers script answers before after }
+        → (ran : HasRun tells C.tells C.state files left name slot anchors workers script St.faults answers before after)
+        → IsTrue tells
+        → AreAnsweredAlone files left name slot anchors workers script answers before after (word ran.closed.closed.gathered.state) }
 {
     runs_keep_the_rules::<C, St>();
+    runs_leave_standing::<C, St>();
     new_passes_show_plain_stores::<C, ScriptOrigin>();
     private_runs_are_plain::<C, ScriptOrigin, St>();
     opened_stores_have_runs::<C, ScriptOrigin>();
     fitting_scripts_have_room();
+    stores_begin_at_rest();
     anchors_hold_slots_of_the_file();
     one_winner_at_an_anchor();
     written_meta_is_spelled();

@@ -1,7 +1,9 @@
 //! Tests of what is counted in a store that is closed.
 #![tactic(auto)]
 
+#[cfg(test)]
 mod closing;
+#[cfg(test)]
 mod pages;
 #[cfg(test)]
 mod rows;

@@ -12,7 +12,7 @@ use Rattle.store_rule.specs.Passes.{IsOf, basis, view}
 use Rattle.dir_set.specs.declared.dirs.DirPass.{DirPass}
 use Rattle.dir_set.specs.declared.dirs.Dirs.{Dirs}
 use Rattle.dir_set.specs.Dirs.{AtPass, EachPass, EachStore, IsDirPass, dir_of}
-use Rattle.test_dirs.specs.declared.shelf.TwoUrls.{TwoUrls}
+use Rattle.test_dirs.specs.declared.urls.TwoUrls.{TwoUrls}
 
 -- The first offer has this URL, and each other one the second. All have one body, and no anchor is left to one pass. An offer may take as
 -- many slots as an entry may have at most.

@@ -4,7 +4,7 @@ ghost use Rattle.dir_set.specs.Files.{AreDifferent};
 ghost use Rattle.rock_disk.specs.File.{NoneAway};
 ghost use Rattle.rock_disk.specs.Memory.{volume_files};
 
-use crate::shelf::TwoUrls;
+use crate::urls::TwoUrls;
 use dir_set::{DirFault, OpenDirs, close_dirs, new_caches_may_be_closed, open_dirs};
 use rock_disk::{MemCell, MemVolume};
 use rock_io::Words;

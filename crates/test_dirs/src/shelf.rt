@@ -12,39 +12,9 @@ use rock_disk::{Cell, Station};
 use rock_reader::{More, reading_tabs_may_go_on};
 use rock_writer::{Ended, WriteFault};
 use std::alloc::Global;
-use std::snapshot::Snapshot;
 use std::sync::Wait;
 use store_key::check_url;
 use store_rule::Origin;
-
-/// Two URLs with one body: the first line has the first URL, and each other one the second.
-#[derive(Drop)]
-pub struct TwoUrls {
-    first: Snapshot<Vec<u8>>,
-    second: Snapshot<Vec<u8>>,
-    body: Snapshot<Vec<u8>>,
-}
-
-impl TwoUrls {
-    ghost use Rattle.test_dirs.specs.Offered.{offers_in, offers_of};
-    ghost use Rattle.std.specs.Prelude.{◌≡◌};
-
-    pub fn new(first: &Vec<u8>, second: &Vec<u8>, body: &Vec<u8>) -> Self
-        ensures { offers_of result ≡ offers_in first.now.items second.now.items body.now.items }
-    {
-        TwoUrls {
-            first: Snapshot::of(first),
-            second: Snapshot::of(second),
-            body: Snapshot::of(body),
-        }
-    }
-}
-
-impl Origin for TwoUrls {
-    ghost use Rattle.test_dirs.specs.Offered.{offers_of};
-
-    ghost offers = { offers_of };
-}
 
 /// What is asked of the cache.
 #[derive(Clone, Copy)]

@@ -4,7 +4,8 @@ ghost use Rattle.rock_disk.specs.File.{NoneAway};
 ghost use Rattle.rock_disk.specs.Memory.{volume_files};
 
 use crate::files::{add, opened, told_over};
-use crate::shelf::{Ask, TwoUrls};
+use crate::shelf::Ask;
+use crate::urls::TwoUrls;
 use rock_disk::MemVolume;
 use std::alloc::Global;
 use std::sync::Wait;

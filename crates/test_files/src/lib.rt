@@ -4,6 +4,10 @@
 #[cfg(test)]
 mod files;
 #[cfg(test)]
+mod made;
+#[cfg(test)]
 mod made_system;
 #[cfg(test)]
 mod signals;
+#[cfg(test)]
+mod together;

@@ -222,7 +222,7 @@ fn answers<'a>(
     Ok(answers)
 }
 
-/// What is printed of versions. Each is begun by one line.
+/// What is printed of versions. Each is begun by one line, and wiped by one at most.
 fn told_of<'a>(
     alloc: Global,
     lines: &'a [Asked],
@@ -231,7 +231,7 @@ fn told_of<'a>(
     answers: &[Answered<'_>],
 ) -> Result<Told<'a>, Fail> {
     let mut begun: Vec<(u32, u32)> = Vec::new(alloc);
-    let mut purged = Vec::new(alloc);
+    let (mut purged, mut wiped) = (Vec::new(alloc), Vec::new(alloc));
     let (mut given_up, mut untold) = (Vec::new(alloc), Vec::new(alloc));
     let mut full: u32 = 0;
     for Answered {
@@ -248,7 +248,12 @@ fn told_of<'a>(
                 }
                 begun.push((version, *number))?;
             }
-            "PURGED" | "WIPED" | "LATER" => purged.push(version)?,
+            "WIPED" if wiped.contains(&version) => return Err(broken(*number, answer)),
+            "WIPED" => {
+                wiped.push(version)?;
+                purged.push(version)?;
+            }
+            "PURGED" | "LATER" => purged.push(version)?,
             "FULL" => full = full.wrapping_add(1),
             _ => {}
         }

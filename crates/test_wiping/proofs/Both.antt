@@ -1,5 +1,5 @@
 -- A list of two items, of which both are taken off.
-use Rattle.std.proofs.Common.{All, List, [], ap, arith, length, refl, ◌++◌, ◌∙◌, ◌≡◌, ◌∷◌, ℕ}
+use Rattle.std.proofs.Common.{All, List, [], ap, arith, length, refl, suc, zero, ◌++◌, ◌∙◌, ◌≡◌, ◌∷◌}
 use Rattle.std.proofs.lemmas.List.{length_push}
 
 module _ {X : Type 0} where

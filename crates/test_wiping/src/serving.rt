@@ -6,6 +6,7 @@ ghost use Rattle.rock_run.specs.Crews.{MayRest};
 ghost use Rattle.rock_run.specs.Offered.{offers_of};
 ghost use Rattle.rock_run.specs.Scripts.{MayBeServed};
 ghost use Rattle.store_rule.specs.Passes.{basis, view};
+ghost use Rattle.worker_shelf.specs.Taking.{Takes};
 
 use lock_word::{Cause, Epoch};
 use pass_laws::new_passes_rest;
@@ -82,6 +83,27 @@ fn wipe_for<C: Cell + Send, St: Station<C = C>>(
     answer_text(alloc, answer)
 }
 
+/// Serves a line of the first worker on its shelf. What it is answered does not matter here.
+fn serve_first<R: Wait, C: Cell + Send, St: Station<C = C>>(
+    rt: &R,
+    alloc: Global,
+    shelf: &mut WorkerShelf<'_, C, ScriptOrigin, St>,
+    line: &Line,
+)
+    requires takes { Takes C.tells C.state offers_of shelf.old.store shelf.old.pass line.now }
+    ensures store { shelf.new.store ≡ shelf.old.store }
+    ensures number { (view shelf.new.pass).pass ≡ (view shelf.old.pass).pass }
+{
+    let _ = shelf.serve(rt, alloc, line);
+}
+
+/// Tells what came of a purge, on a line of its own. Where memory was wanting for it, the line has a question mark.
+fn tell(told: &mut String, answer: Option<String>) {
+    let text = answer.as_ref().map(|text| text.as_str()).unwrap_or("?");
+    let _ = told.push_str(text);
+    let _ = told.push_str("\n");
+}
+
 /// Serves the lines of a script, in their order: those of the first worker on a shelf, but for those of marks, and those of
 /// the second one as durable purges. Then the first worker leaves all tabs. What came of the purges is told, a line for each.
 fn serve_all<R: Wait, C: Cell + Send, St: Station<C = C>>(
@@ -115,11 +137,10 @@ fn serve_all<R: Wait, C: Cell + Send, St: Station<C = C>>(
             continue;
         }
         if line.worker == 1 {
-            let _ = shelf.serve(rt, alloc, line);
+            serve_first(rt, alloc, &mut shelf, line);
         } else {
             let answer = wipe_for(alloc, store, second, second_station, script, line);
-            let _ = told.push_str(answer.as_ref().map(|text| text.as_str()).unwrap_or("?"));
-            let _ = told.push_str("\n");
+            tell(told, answer);
         }
     }
     shelf.leave_all();

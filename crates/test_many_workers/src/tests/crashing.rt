@@ -43,7 +43,7 @@ const SCRIPT: &str = "\
 3 get http://a/05
 1 begin 0 http://a/04 #900:3
 2 begin 1 http://a/06 #901:4
-3 purge http://a/00
+3 wipe http://a/00
 1 add 0 600
 2 add 1 700
 3 save http://a/07 =four
@@ -55,8 +55,8 @@ const SCRIPT: &str = "\
 3 save http://a/01 #431:6
 1 get http://a/01
 2 save http://a/00 =five
-3 purge http://a/02
-1 purge http://a/03
+3 wipe http://a/02
+1 wipe http://a/03
 2 get http://a/03
 3 begin 2 http://a/03 =six
 1 save http://a/06 =seven
@@ -69,7 +69,7 @@ const SCRIPT: &str = "\
 2 save http://a/02 #902:8
 3 get http://a/03
 1 add 3 471
-2 purge http://a/06
+2 wipe http://a/06
 3 put http://a/06 =ten
 1 drop 3
 2 save http://a/05 =eleven
@@ -79,12 +79,12 @@ const SCRIPT: &str = "\
 3 get http://a/04
 1 purge http://a/05
 2 save http://a/06 #429:9
-3 purge http://a/01
+3 wipe http://a/01
 1 save http://a/05 =fourteen
 2 get http://a/06
 3 save http://a/00 #30:10
 1 get http://a/05
-2 purge http://a/00
+2 wipe http://a/00
 3 put http://a/01 =fifteen
 1 put http://a/02 =sixteen
 2 save http://a/07 =seventeen
@@ -100,6 +100,23 @@ struct Looks {
     runs: u32,
     images: u32,
     entries: u32,
+    wiped: u32,
+}
+
+/// Whether a line was answered WIPED of this version.
+fn is_wiped(printed: &str, version: &str) -> bool {
+    for line in printed.lines() {
+        let mut words = line.split(' ').skip(2);
+        let is_answer = words.next() == Some("WIPED");
+        let (wiped, _) = words
+            .next()
+            .and_then(|epoch| epoch.split_once('.'))
+            .unwrap_or(("", ""));
+        if is_answer && wiped == version {
+            return true;
+        }
+    }
+    false
 }
 
 /// A volume with the file, in which this call of this station fails. The first station is that of the rebuild.
@@ -118,12 +135,14 @@ fn failing(alloc: Global, station: u32, failed: u64) -> Result<MemVolume, Fail>
     Ok(volume)
 }
 
-/// Looks at each file that a crash may leave: each entry that it lists is one of the file before, or of the script.
+/// Looks at each file that a crash may leave: each entry that it lists is one of the file before, or of the script, and of no version
+/// that was wiped.
 fn look<R: Abort + Threads + Wait + Sync>(
     rt: &R,
     alloc: Global,
     images: &Images,
     offers: &Offers<'_>,
+    printed: &str,
     looks: &mut Looks,
 ) -> Result<(), Fail> {
     let pipes = Pipes::new(alloc);
@@ -134,6 +153,8 @@ fn look<R: Abort + Threads + Wait + Sync>(
         assert_eq!(rt; ended.status, Status::Done);
         for entry in std::str::from_utf8(&ended.printed).unwrap_or("").lines() {
             assert!(rt; offers.has(alloc, &file, entry)?, "{entry}");
+            let version = entry.split(' ').nth(2).unwrap_or("");
+            assert!(rt; !is_wiped(printed, version), "{entry}");
             looks.entries = looks.entries.saturating_add(1);
         }
         looks.images = looks.images.saturating_add(1);
@@ -165,7 +186,13 @@ fn crash<R: Abort + Threads + Wait + Sync>(
         return Err(Fail::from("the file is not in the volume"));
     };
     let images = Images::of(alloc, cells, 4_096)?;
-    look(rt, alloc, &images, offers, looks)?;
+    let printed = std::str::from_utf8(&ended.printed).unwrap_or("");
+    look(rt, alloc, &images, offers, printed, looks)?;
+    let wiped = printed
+        .lines()
+        .filter(|line| line.contains(" WIPED "))
+        .count();
+    looks.wiped = looks.wiped.saturating_add(wiped as u32);
     looks.runs = looks.runs.saturating_add(1);
     Ok(volume.ended().iter().any(|faults| *faults > 0))
 }
@@ -180,6 +207,7 @@ fn a_crash_leaves_responses_of_the_script(rt: HostRuntime) -> Result<(), Fail> {
         runs: 0,
         images: 0,
         entries: 0,
+        wiped: 0,
     };
     for station in 1..4u32 {
         for failed in 0..100u64 {
@@ -189,9 +217,10 @@ fn a_crash_leaves_responses_of_the_script(rt: HostRuntime) -> Result<(), Fail> {
         }
     }
     // The stations of three workers make more than 40 calls together. How many images a run leaves depends on how its workers
-    // take turns, but some run leaves several, and these list entries.
+    // take turns, but some run leaves several, these list entries, and in some run an entry is wiped.
     assert!(rt; looks.runs > 40, "{}", looks.runs);
     assert!(rt; looks.images > looks.runs, "{}", looks.images);
     assert!(rt; looks.entries > looks.images, "{}", looks.entries);
+    assert!(rt; looks.wiped > 0);
     Ok(())
 }

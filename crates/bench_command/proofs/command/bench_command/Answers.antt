@@ -72,7 +72,7 @@ returns-in-Done-clause-prints g c told =
             unwritten = λ images zeros fits. c.scripts_fit_into_unwritten_files.ensures _ _ images _ sized zeros fits;
           } in
           line.is ∙ line_of_all t.seed t.workers t.count line.run.answers (λ answered alike. c.summaries_tell_no_versions.ensures.plain t.seed t.workers t.count answered alike)
-          (all_renamed t.seed t.workers t.count laws g.V.Volume.tells (g.V.Volume.files c.create_file.new.volume) t.name.now line.run.answers _ _ line.run.served.explained private zeros slots none);
+          (all_renamed t.seed t.workers t.count laws g.V.Volume.tells (g.V.Volume.files c.create_file.new.volume) _ t.name.now line.run.answers _ _ line.run.served.explained _ private zeros slots none);
     }) (c.run_bench.ensures.prints told)
 
 pub returns-in-Done-clause-leaves : goal.returns-in-Done-clause-leaves

@@ -1,4 +1,4 @@
-use Rattle.std.proofs.Common.{Contains, List, ap, arith, length, length-append, map, subst, sym, ◌+◌, ◌<◌, ◌==◌, ◌∙◌, ◌≡◌, ◌≤◌, ◌⊎◌, ℕ}
+use Rattle.std.proofs.Common.{Contains, ap, arith, length, length-append, map, refl, subst, sym, ◌+◌, ◌<◌, ◌==◌, ◌∙◌, ◌≡◌, ◌≤◌, ◌⊎◌, ℕ}
 use Rattle.std.proofs.lemmas.List.{length-map}
 use Rattle.rock_disk.specs.Cell.{CellState}
 use Rattle.lock_word.specs.Words.{version_limit}
@@ -13,16 +13,16 @@ use Rattle.plain_model.specs.Store.{place_at}
 use Rattle.plain_laws.specs.Fitting.{Fits}
 use Rattle.worker_pool.specs.Running.{answers_of}
 use Rattle.run_rules.specs.Fitting.{FitsInto}
-use Rattle.run_rules.specs.Private.{IsAlone}
+use Rattle.plain_runs.specs.Alone.{AreTabsApart}
 use Rattle.store_key.specs.Key.{key_of}
 use Rattle.script_text.specs.declared.answer.Answer.{Answer}
-use Rattle.script_text.specs.declared.line.Line.{Line}
 use Rattle.core_model.specs.Anchors.{opening_counter}
 use Rattle.entry_cut.specs.Content.{room_of}
 use Rattle.plain_model.specs.Opening.{IsOpened}
 use Rattle.plain_laws.specs.Opened.{HoldsOfFile}
-use Rattle.plain_laws.specs.Private.{IsServedAlone}
 use Rattle.plain_runs.specs.Runs.{setting_over}
+use Rattle.plain_laws.specs.Private.{is_private}
+use Rattle.plain_runs.specs.PrivateRuns.{left_private}
 use Rattle.store_rule.specs.Passes.{basis}
 use Rattle.worker_pool.specs.Courses.{Stage}
 use Rattle.rock_run.specs.Offered.{offers_of}
@@ -31,7 +31,8 @@ use Rattle.run_rules.proofs.Fitting.{OneWinner, fits_is}
 use Rattle.run_rules.proofs.Lists.{at_place, both}
 use Rattle.run_rules.proofs.Numbers.{one_by_one}
 use Rattle.run_rules.proofs.Opened.{has_played}
-use Rattle.run_rules.proofs.Private.{account_of, alone_there, answer_lists, answers_counted, images_are, station_of, told_of}
+use Rattle.run_rules.proofs.Private.{account_of, alone_there, answer_lists, answers_counted, cells_back, images_are, own_there, run_over, station_of, told_of}
+use Rattle.run_rules.proofs.PrivateAnchors.{at_private, unnamed_stands}
 use Rattle.run_rules.proofs.Suiting.{ContentSizes, HeldOfFile, suffices}
 use Rattle.run_rules.proofs.Unspent.{never_spent}
 use Rattle.run_rules.proofs.laws.private_lines_are_answered_plainly.Goals as goal
@@ -50,6 +51,8 @@ returns g c tells files left name slot anchors workers script answers before aft
       };
       plain = opens.0;
       opened = opens.1;
+      back = map (λ (x : g.row.C.Denot). (g.C.Cell.state x).now) h.closed.cells;
+      given_back = cells_back tells g.C.Cell.tells g.C.Cell.state g.St.Station.faults files left name slot anchors workers script answers before after h told;
       many = answer_lists tells g.C.Cell.tells g.C.Cell.state g.St.Station.faults files left name slot anchors workers script answers before after h told;
       counted = λ j mine at. answers_counted tells g.C.Cell.tells g.C.Cell.state g.St.Station.faults files left name slot anchors workers script answers before after h told j mine at;
       each = λ stations ended j mine at none images plain room alone.
@@ -68,8 +71,10 @@ returns g c tells files left name slot anchors workers script answers before aft
           let fitting = fits_is g.C.Cell.tells g.C.Cell.state ground slot anchors script cells opening one store.anchors_are store.slot_is
           (store.slots_are ∙ sym opening.kept.many) store.offers_are (omega (arith, from, to, kept_many)) in
           let fit = fitting.1 (subst (λ z. FitsInto slot anchors z script) (same ∙ sym (opening.kept.told known)) room.slots) in
-          let explained = (c.runs_keep_the_rules.ensures tells files left name slot anchors workers script answers before after
-          (let most = sized.to in omega arith) h).0 in
+          let explained_there = c.runs_keep_the_rules.ensures tells files left name slot anchors workers script answers before after
+          (let most = sized.to in omega arith) h in
+          let explained = explained_there.0 in
+          let many_kept : length opening.kept.images ≡ length images = ap length (opening.kept.told known ∙ sym same) in
           let counter = greatest_below slot images (opening_counter explained.run.setting) room.opened.rebuilt.greatest
           (subst (λ z. IsGreatest slot z (opening_counter explained.run.setting))
           (images_are tells g.C.Cell.tells g.C.Cell.state g.St.Station.faults files left name slot anchors workers script answers before after h told explained.images (explained.file told) ∙ sym same) explained.began.counter) room.opened.is.greatest in
@@ -89,7 +94,7 @@ returns g c tells files left name slot anchors workers script answers before aft
             versions = room.versions;
           } in
           let fits_own = c.fitting_scripts_have_room.ensures.fewer (setting_over slot anchors (length images)) script plain (λ line. line.worker == j + 1) fits_all in
-          let served = c.private_runs_are_plain.ensures slot anchors workers script cells h.closed.cells h.closed.store h.closed.passes script
+          let run = c.private_runs_are_plain.ensures slot anchors workers script cells h.closed.cells h.closed.store h.closed.passes script
           h.served.played.accounts j account.item plain known
           (c.opened_slots_are_wide_and_few.ensures.slots slot h.closed.opened.bytes _ _ sized h.closed.opened.shape) store
           (one_by_one script numbered)
@@ -100,11 +105,23 @@ returns g c tells files left name slot anchors workers script answers before aft
           (λ x among versions is. never_spent explained.run script explained.crew explained.rules suffice answers explained.printed j
           x.line.number versions mine at (subst (λ z. Contains z (x.line.number, answer.Spent versions)) account.is
           (subst (λ (z : Answer). Contains (answers_of account.item) (x.line.number, z)) is (told_of tells g.C.Cell.tells g.C.Cell.state g.St.Station.faults files left name slot anchors workers script answers before after h told account.item x among))))
-          (alone_there tells g.C.Cell.tells g.C.Cell.state g.St.Station.faults files left name slot anchors workers script answers before after h told j fit (subst (λ n. IsAlone (setting_over slot anchors n) script (j + 1)) many alone))
+          (alone_there tells g.C.Cell.tells g.C.Cell.state g.St.Station.faults files left name slot anchors workers script answers before after h told j fit (subst (λ n. AreTabsApart (setting_over slot anchors n) script (j + 1)) many alone))
           (subst (λ n. Fits (setting_over slot anchors n) (lines_for (j + 1) script) plain) many fits_own) in
           let given : map (λ x. x.answer) account.item.stages ≡ map (λ (x : ℕ × Answer). x.1) mine =
           sym (both (λ (x : Stage _). (x.line.number, x.answer)) (λ (x : ℕ × Answer). x.1) account.item.stages)
           ∙ ap (map (λ (x : ℕ × Answer). x.1)) account.is in
-          subst (λ n. IsServedAlone (setting_over slot anchors n) script (j + 1) plain (map (λ (x : ℕ × Answer). x.1) mine)) (sym many)
-          (subst (λ (z : List Answer). IsServedAlone (setting_over slot anchors (length cells)) script (j + 1) plain z) given served);
+          let rest = c.stores_begin_at_rest.ensures.file (setting_over slot anchors (length images)) images plain refl
+          (subst (λ n. IsOpened n images anchors plain) (sym whole) room.opened) in
+          let unnamed = unnamed_stands tells g.C.Cell.tells g.C.Cell.state g.St.Station.faults files left name slot anchors workers script answers before after h told
+          images room.file plain room.opened explained_there.0 explained_there.1
+          (c.runs_leave_standing.ensures tells files left name slot anchors workers script answers before after sized numbered h told) one room.slots j
+          (λ lines fits. c.fitting_scripts_have_room.ensures.room (setting_over slot anchors (length images)) script lines plain
+          (omega (arith, wide, whole)) (omega (arith, from)) (omega (arith, from, to, kept_many, many_kept)) rest.2 rest.0 fits)
+          (c.fitting_scripts_have_room.ensures.fewer (setting_over slot anchors (length images)) (lines_for (j + 1) script) plain
+          (is_private (setting_over slot anchors (length images)) script (j + 1)) fits_own) rest.3 in
+          at_private slot anchors (length images) script (j + 1) plain _ (left_private ground script (j + 1) j) _ _
+          (own_there tells g.C.Cell.tells g.C.Cell.state g.St.Station.faults files left name slot anchors workers script answers before after h told j images many plain fit)
+          unnamed
+          (run_over tells g.C.Cell.tells g.C.Cell.state g.St.Station.faults files left name slot anchors workers script answers before after h told j images many plain
+          (map (λ x. x.answer) account.item.stages) (map (λ (x : ℕ × Answer). x.1) mine) given run);
     }

@@ -1,6 +1,6 @@
 use Rattle.std.proofs.Common.{◌∙◌}
 use Rattle.rock_run.specs.Offered.{offers_of}
-use Rattle.store_rule.specs.Passes.{basis, view}
+use Rattle.store_rule.specs.Passes.{basis}
 use Rattle.test_wiping.proofs.Passes.{keeps_number}
 use Rattle.test_wiping.proofs.Resting.{rests_again}
 use Rattle.test_wiping.proofs.serving.wipe_for.Goals as goal

@@ -1,7 +1,7 @@
 use Rattle.std.proofs.Common.{ap, ◌∙◌, ℕ}
 use Rattle.std.specs.Global.{Vec}
 use Rattle.test_dirs.specs.Offered.{offers_in}
-use Rattle.test_dirs.proofs.shelf.TwoUrls.new.Goals as goal
+use Rattle.test_dirs.proofs.urls.TwoUrls.new.Goals as goal
 
 pub returns : goal.returns
 returns c = ap (λ (v : Vec ℕ). offers_in v.items c.of-2.result.value.items c.of-3.result.value.items) c.of.ensures
