@@ -45,7 +45,15 @@ module _ {C O : Type 0} (tells : Bool) (state : C → CellState) (offers : O →
 
   -- the entry that was begun
   abbrev pub fresh : (version : ℕ) → Entry
-  fresh version = record { anchor = anchor_for (basis tells state offers s) url; version = version; offer = offer; is_durable = false; taken = 0; url = url; body = [] }
+  fresh version = record {
+    anchor = anchor_for (basis tells state offers s) url;
+    version = version;
+    offer = offer;
+    is_durable = false;
+    taken = 0;
+    url = url;
+    body = (basis tells state offers s).offers.body (offer - (basis tells state offers s).setting.slots);
+  }
 
 -- What a forwarding does that may look in vain at most this often.
 module _ {C O : Type 0} (tells : Bool) (state : C → CellState) (offers : O → Offers) (s : Store C O) (t offer : ℕ) (url : List ℕ) (most : ℕ) where

@@ -33,7 +33,7 @@ use Rattle.slice_chain.specs.Names.{MayNameEntry, Named}
 use Rattle.rock_writer.specs.Beginning.{IsTooLong, MayBegin, MayClear, MayTakeAnchor, TookAnchor, WasIdle, WasVacant, begun}
 use Rattle.rock_writer.specs.Entries.{Drafts, WritesAs, writer_as}
 use Rattle.store_rule.proofs.Saying.{when_then}
-use Rattle.rock_writer.proofs.Offered.{named_by}
+use Rattle.rock_writer.proofs.Offered.{named_by, said_once}
 use Rattle.rock_writer.proofs.Resting.{inner_now, nine_now, tab_now}
 use Rattle.rock_writer.proofs.Seeing.{Grows, grows_on, grows_step}
 
@@ -230,6 +230,8 @@ module _ {C O : Type 0} (tells : Bool) (state : C → CellState) {says : Bool} (
             from = may.from;
             needed = may.needed room;
             fits = url_fits named_in named_is;
+            url_is = sym named_is;
+            body_is = said_once (is_said says tells) _ _;
           };
           drafts = drafts;
         }

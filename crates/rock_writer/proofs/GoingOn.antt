@@ -1,5 +1,5 @@
 -- Where it is not known what is offered, the body of an entry that a tab writes may go on otherwise behind what was taken.
-use Rattle.std.proofs.Common.{Bool, List, ap, arith, drop, false, length, length-append, refl, sym, take, true, ◌*◌, ◌++◌, ◌+◌, ◌≡◌, ◌≤◌, ◌∙◌, ℕ}
+use Rattle.std.proofs.Common.{Bool, List, ap, arith, cond, drop, false, length, length-append, refl, sym, take, true, ◌*◌, ◌++◌, ◌+◌, ◌≡◌, ◌≤◌, ◌∙◌, ℕ}
 use Rattle.std.proofs.lemmas.Bool.{false≢true}
 use Rattle.std.proofs.Math.Seq.{take-append-add}
 use Rattle.std.proofs.lemmas.List.{drop-take, length-take-le, take-append-le, take-take}
@@ -42,6 +42,11 @@ drafts_with false g fewest desks t e more place silent size d = record {
   bytes = d.bytes ∙ same_front (meta_bytes (key_of e.url) e.url) e.body more (place * room_of g.slot) (draft_at desks t).held e.taken (omega (arith, d.count, size)) d.inside;
 }
 
+-- where a thing is not said, the other one is meant
+unsaid : (b : Bool) → b ≡ false → (xs ys : List ℕ) → cond b xs ys ≡ ys
+unsaid true silent xs ys = absurd (false≢true (sym silent))
+unsaid false silent xs ys = refl
+
 module _ {C O : Type 0} (tells : Bool) (state : C → CellState) {says : Bool} (offers : O → OffersOf says) (s : Store C O) (p : Pass C) (t : ℕ) (e : Entry) (more : List ℕ) (silent : is_said says tells ≡ false) where
   pub goes_on_with : length (meta_bytes (key_of (url_in (basis tells state offers s) e)) (url_in (basis tells state offers s) e)) ≡ 32 + length (url_in (basis tells state offers s) e)
       → WritesAs tells state offers s p t e → WritesAs tells state offers s p t (with_more e more)
@@ -57,6 +62,8 @@ module _ {C O : Type 0} (tells : Bool) (state : C → CellState) {says : Bool} (
       from = h.rests.from;
       needed = h.rests.needed;
       fits = h.rests.fits;
+      url_is = h.rests.url_is;
+      body_is = sym (unsaid (is_said says tells) silent _ _);
     };
     drafts = drafts_with (is_said says tells) (basis tells state offers s) 1 p.desks t e more (length h.published) silent size h.drafts;
   }

@@ -141,7 +141,7 @@ module _ {C O : Type 0} (tells : Bool) (state : C → CellState) {says : Bool} (
         goes_on = record {
           published = ps ++ slot ∷ [];
           end = Next next;
-          rests = record { own = own2; below = rests.below; inner_free = free; goes_on = grown ps; is = is; from = rests.from; needed = rests.needed; fits = rests.fits };
+          rests = record { own = own2; below = rests.below; inner_free = free; goes_on = grown ps; is = is; from = rests.from; needed = rests.needed; fits = rests.fits; url_is = rests.url_is; body_is = rests.body_is };
           drafts = let d = h.writes.drafts in record {
             key = ap Rattle.tab_states.specs.declared.desks.Draft.Draft.key draft ∙ d.key;
             durable = ap Rattle.tab_states.specs.declared.desks.Draft.Draft.is_durable draft ∙ d.durable;

@@ -23,6 +23,11 @@ pub named_by : (b : Bool) (offered named : List ℕ) → When b (offered ≡ nam
 named_by true offered named is = is
 named_by false offered named is = refl
 
+-- what is said is said once
+pub said_once : (b : Bool) (offered other : List ℕ) → cond b offered other ≡ cond b offered (cond b offered other)
+said_once true offered other = refl
+said_once false offered other = refl
+
 -- no entry takes more slots than are needed for its offer
 pub most_in : {X : Type 0} → (b : Bool) (g : GroundOf b X) (e : Entry) → min (count (cut_in g e 0 0)) (min 4096 g.setting.slots) ≤ most_of g e.offer
 most_in true g e = omega arith

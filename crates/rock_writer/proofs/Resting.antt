@@ -156,7 +156,7 @@ module _ {C O : Type 0} (tells : Bool) (state : C → CellState) {says : Bool} (
   -- the same tab at another pass
   pub rests_at : (p q : Pass C) (rs more : List ℕ) → Rests tells state offers s p t e published end rs → IsOf tells state offers s q → tab_at (view q) t ≡ Writing (writer_as g e published end more) → InnerIsFree (view q)
       → Rests tells state offers s q t e published end more
-  rests_at p q rs more h own is free = record { own = own; below = h.below; inner_free = free; goes_on = h.goes_on; is = is; from = h.from; needed = h.needed; fits = h.fits }
+  rests_at p q rs more h own is free = record { own = own; below = h.below; inner_free = free; goes_on = h.goes_on; is = is; from = h.from; needed = h.needed; fits = h.fits; url_is = h.url_is; body_is = h.body_is }
 
   pub rests_on : (p q : Pass C) (rs : List ℕ) → Rests tells state offers s p t e published end rs → IsOf tells state offers s q → (view q).tabs ≡ (view p).tabs → Rests tells state offers s q t e published end rs
   rests_on p q rs h own same = rests_at p q rs rs h own (ap (λ xs. get_or xs t Tab.Free) same ∙ h.is) (ap (λ xs. is_free (get_or xs inner Tab.Free)) same ∙ h.inner_free)

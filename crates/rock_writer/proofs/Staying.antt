@@ -41,6 +41,8 @@ module _ {C O : Type 0} (tells : Bool) (state : C → CellState) {says : Bool} (
       from = r.from;
       needed = r.needed;
       fits = r.fits;
+      url_is = r.url_is;
+      body_is = r.body_is;
     };
     drafts = let d = h.drafts in record {
       key = ap Draft.key draft ∙ d.key;

@@ -37,6 +37,8 @@ module _ {C O : Type 0} (tells : Bool) (state : C → CellState) {says : Bool} (
       from = r.from;
       needed = r.needed;
       fits = r.fits;
+      url_is = r.url_is;
+      body_is = r.body_is;
     };
     drafts = record { key = d.key; durable = d.durable; count = d.count; least = let l = d.least in omega arith; within = d.within; inside = d.inside; bytes = d.bytes };
   }

@@ -1,5 +1,5 @@
 -- An entry is begun, or its anchor is not taken.
-use Rattle.std.specs.Prelude.{[], Bool, List, false, length, true, ◌+◌, ◌<◌, ◌≡◌, ◌≢◌, ◌≤◌, ◌⊎◌, ℕ}
+use Rattle.std.specs.Prelude.{[], Bool, List, cond, false, length, true, ◌+◌, ◌-◌, ◌<◌, ◌≡◌, ◌≢◌, ◌≤◌, ◌⊎◌, ℕ}
 use Rattle.lock_word.specs.Words.{epoch_number, is_idle, is_vacant, word_number}
 use Rattle.lock_word.specs.declared.word.Word.{Word}
 use Rattle.rock_disk.specs.Cell.{CellState}
@@ -116,8 +116,17 @@ module _ {X : Type 0} {says : Bool} (g : GroundOf says X) (t a : ℕ) (v : View 
   NotTaken (Spent versions) w = NoVersion versions w
 
 module _ {C O : Type 0} (tells : Bool) (state : C → CellState) {says : Bool} (offers : O → OffersOf says) (s : Store C O) (t offer : ℕ) (url : List ℕ) (is_durable : Bool) (p q : Pass C) where
+  -- Where it is known what is offered, it has the body of the offer, and where it is not, none yet.
   abbrev pub begun : ℕ → Entry
-  begun version = record { anchor = anchor_for (basis tells state offers s) url; version = version; offer = offer; is_durable = is_durable; taken = 0; url = url; body = [] }
+  begun version = record {
+    anchor = anchor_for (basis tells state offers s) url;
+    version = version;
+    offer = offer;
+    is_durable = is_durable;
+    taken = 0;
+    url = url;
+    body = cond (is_said says tells) ((basis tells state offers s).offers.body (offer - (basis tells state offers s).setting.slots)) [];
+  }
 
   -- The anchor was taken and the entry named, and the tab writes it.
   pub record Began (version : ℕ) : Type 0 where

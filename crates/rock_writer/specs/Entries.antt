@@ -118,6 +118,9 @@ module _ {C O : Type 0} (tells : Bool) (state : C → CellState) {says : Bool} (
     pub from : (basis tells state offers s).setting.slots ≤ e.offer
     pub needed : IsNeeded (basis tells state offers s) e.offer e.anchor
     pub fits : IsUrlFor (basis tells state offers s) (url_in (basis tells state offers s) e) e.anchor (front_half (key_of (url_in (basis tells state offers s) e))) (back_half (key_of (url_in (basis tells state offers s) e)))
+    -- where it is known what is offered, these are the URL and the body of the offer, so the tab writes no other entry
+    pub url_is : e.url ≡ url_in (basis tells state offers s) e
+    pub body_is : e.body ≡ body_in (basis tells state offers s) e
 
   -- it writes this entry, and has at least so many bytes of the next piece
   pub record WritesWith (fewest : ℕ) (e : Entry) : Type 0 where

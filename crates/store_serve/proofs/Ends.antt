@@ -29,12 +29,24 @@ write_as w = ap (λ z. Err (Write z)) (same_error w)
 pub write_from : {T U : Type 0} {f g : WriteFault} → IsErrOf {T = T} (Err (Write f)) (Write g) → IsErrOf {T = U} (Err f) g
 write_from w = ap Err (same_write w)
 
--- the entry that was put, by the answer
+-- the entry that was put, with this version and so many bytes taken
+abbrev put_with : {X : Type 0} → Ground X → (offer : ℕ) (url : List ℕ) (durable : Bool) (version taken : ℕ) → Entry
+put_with g offer url durable version taken = record {
+  anchor = anchor_for g url;
+  version = version;
+  offer = offer;
+  is_durable = durable;
+  taken = taken;
+  url = url;
+  body = g.offers.body (offer - g.setting.slots);
+}
+
+-- and by the answer
 pub closed_as : {X : Type 0} (g : Ground X) (t offer : ℕ) (url : List ℕ) (durable : Bool) (version taken : ℕ) (ended : Ended) (w : View X) → version_of ended ≡ version
-    → taken ≡ length (g.offers.body (offer - g.setting.slots))
-    → ClosedDurably g t record { anchor = anchor_for g url; version = version; offer = offer; is_durable = durable; taken = taken } w → ClosedDurably g t (put_as g offer url durable ended) w
-closed_as g t offer url durable version taken ended w version_is taken_is h = subst (λ (n : ℕ). ClosedDurably g t record { anchor = anchor_for g url; version = n; offer = offer; is_durable = durable; taken = length (g.offers.body (offer - g.setting.slots)) } w) (sym version_is)
-    (subst (λ (n : ℕ). ClosedDurably g t record { anchor = anchor_for g url; version = version; offer = offer; is_durable = durable; taken = n } w) taken_is h)
+    → taken ≡ length (g.offers.body (offer - g.setting.slots)) → ClosedDurably g t (put_with g offer url durable version taken) w → ClosedDurably g t (put_as g offer url durable ended) w
+closed_as g t offer url durable version taken ended w version_is taken_is h =
+    subst (λ (n : ℕ). ClosedDurably g t (put_with g offer url durable n (length (g.offers.body (offer - g.setting.slots)))) w) (sym version_is)
+    (subst (λ (n : ℕ). ClosedDurably g t (put_with g offer url durable version n) w) taken_is h)
 
 module _ {C O : Type 0} (tells : Bool) (state : C → CellState) (offers : O → Offers) (s : Store C O) (t : ℕ) (e : Entry) (body : List ℕ) (from upto : ℕ) (p : Pass C)
     (may : MayAdd tells state offers s t e body from (length body) p) (whole : upto ≡ length body) where

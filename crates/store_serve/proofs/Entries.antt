@@ -1,5 +1,5 @@
 -- A tab writes no more than one entry.
-use Rattle.std.proofs.Common.{Bool, List, ap, arith, length, sym, ◌*◌, ◌≡◌, ◌∙◌, ℕ}
+use Rattle.std.proofs.Common.{Bool, List, ap, arith, length, sym, ◌*◌, ◌-◌, ◌≡◌, ◌∙◌, ℕ}
 use Rattle.std.specs.Prelude.{Some}
 use Rattle.entry_cut.specs.Content.{room_of}
 use Rattle.rock_disk.specs.Cell.{CellState}
@@ -31,6 +31,12 @@ module _ {C O : Type 0} (tells : Bool) (state : C → CellState) (offers : O →
       let places = ap (λ (w : Writer (List ℕ)). length w.published * room_of (basis tells state offers s).slot) one in
       let mine = h.drafts.count in let other = k.drafts.count in omega arith
 
+  url_same : e.url ≡ f.url
+  url_same = h.rests.url_is ∙ ap (url_of (basis tells state offers s)) offer_is ∙ sym k.rests.url_is
+
+  body_same : e.body ≡ f.body
+  body_same = h.rests.body_is ∙ ap (λ (n : ℕ). (basis tells state offers s).offers.body (n - (basis tells state offers s).setting.slots)) offer_is ∙ sym k.rests.body_is
+
   pub same_entry : e ≡ f
   same_entry = λ i. record {
     anchor = ap Writer.anchor one i;
@@ -38,4 +44,6 @@ module _ {C O : Type 0} (tells : Bool) (state : C → CellState) (offers : O →
     offer = offer_is i;
     is_durable = (sym h.drafts.durable ∙ k.drafts.durable) i;
     taken = taken_is i;
+    url = url_same i;
+    body = body_same i;
   }

@@ -30,6 +30,8 @@ module _ {C O : Type 0} (tells : Bool) (state : C → CellState) (offers : O →
       from = r.from;
       needed = r.needed;
       fits = r.fits;
+      url_is = r.url_is;
+      body_is = r.body_is;
     };
     drafts = let d = h.drafts in let same = leaves.desks j ne (far j h.rests.below) in record {
       key = ap Draft.key same.1 ∙ d.key;

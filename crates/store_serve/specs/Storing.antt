@@ -66,6 +66,8 @@ put_as g offer url durable ended = record {
   offer = offer;
   is_durable = durable;
   taken = length (g.offers.body (offer - g.setting.slots));
+  url = url;
+  body = g.offers.body (offer - g.setting.slots);
 }
 
 -- where no entry was begun, the place where the next search for an entry to evict begins is as it was
