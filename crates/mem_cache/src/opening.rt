@@ -11,7 +11,7 @@ use db_layout::MOST_SLOTS;
 use page_pool::{Pool, PoolSeat};
 use rock_disk::Cell;
 use std::alloc::{AllocError, Global};
-use store_rule::{NoRoom, AnyOrigin, Pass, Store};
+use store_rule::{AnyOrigin, NoRoom, Pass, Store};
 use thiserror::Error;
 
 /// Why no store was made over pages.

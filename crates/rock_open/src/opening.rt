@@ -18,7 +18,7 @@ use rock_disk::{
     opened_slots_are_wide_and_few,
 };
 use std::alloc::Global;
-use store_rule::{NoRoom, AnyOrigin, Pass, Store};
+use store_rule::{AnyOrigin, NoRoom, Pass, Store};
 
 /// A file that is open as a store.
 #[derive(Drop)]

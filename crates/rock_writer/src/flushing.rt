@@ -111,7 +111,12 @@ pub(crate) fn flush<C: Cell, O: AnyOrigin, St: Station<C = C>>(
 }
 
 // Lets an entry be read of which a first slot was published, where none was before.
-fn raise_first<C: Cell, O: AnyOrigin>(store: &Store<C, O>, pass: &mut Pass<C>, tab: u8, published: u32)
+fn raise_first<C: Cell, O: AnyOrigin>(
+    store: &Store<C, O>,
+    pass: &mut Pass<C>,
+    tab: u8,
+    published: u32,
+)
     requires own { IsOf C.tells C.state O.offers store.now pass.old }
     requires may { published ≡ 0 → May C.tells C.state O.offers store.now pass.old (Raise tab Appending) }
     ensures first { published ≡ 0 → (n : ℕ) × Made C.tells C.state O.offers store.now pass.old (Raise tab Appending) n pass.new }
