@@ -100,7 +100,7 @@ struct Looks {
     runs: u32,
     images: u32,
     entries: u32,
-    wiped: u32,
+    wiped: usize,
 }
 
 /// Whether a line was answered WIPED of this version.
@@ -192,7 +192,7 @@ fn crash<R: Abort + Threads + Wait + Sync>(
         .lines()
         .filter(|line| line.contains(" WIPED "))
         .count();
-    looks.wiped = looks.wiped.saturating_add(wiped as u32);
+    looks.wiped = looks.wiped.saturating_add(wiped);
     looks.runs = looks.runs.saturating_add(1);
     Ok(volume.ended().iter().any(|faults| *faults > 0))
 }
