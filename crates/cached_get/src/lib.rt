@@ -1,0 +1,15 @@
+//! The entry of a URL is got from a store in memory, where this has a copy of it, and from the disk's store otherwise.
+#![tactic(auto)]
+
+mod answer;
+mod copies;
+mod copying;
+mod getting;
+mod looking;
+mod opening;
+mod origins;
+mod reading;
+
+pub use answer::Answer;
+pub use copies::CopyOrigin;
+pub use getting::cached_get;
