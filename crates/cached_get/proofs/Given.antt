@@ -60,9 +60,9 @@ module _ {C O : Type 0} (tells : Bool) (state : C → CellState) (offers : O →
       let still : ReadsAs tells state offers s went.middle t f = reads_along e p went.calls f went.middle bytes reads went.gives in
       let response = (still.given went.ends.was went.ends.some).1 told holds in
       let right : IsResponse g e.anchor e.offer e.url response.0 =
-          subst (λ (z : ℕ). IsResponse g z e.offer e.url response.0) given.anchor
-          (subst (λ (z : ℕ). IsResponse g f.anchor z e.url response.0) given.offer
-          (subst (λ (z : List ℕ). IsResponse g f.anchor f.offer z response.0) given.url response.1)) in
+      subst (λ (z : ℕ). IsResponse g z e.offer e.url response.0) given.anchor
+      (subst (λ (z : ℕ). IsResponse g f.anchor z e.url response.0) given.offer
+      (subst (λ (z : List ℕ). IsResponse g f.anchor f.offer z response.0) given.url response.1)) in
       let all : f.place ≡ pieces_of g e.anchor e.offer = went.ends.all ∙ ap (λ z. pieces_of g z f.offer) given.anchor ∙ ap (λ z. pieces_of g e.anchor z) given.offer in
       subst (λ (z : List ℕ). IsResponse g e.anchor e.offer e.url z)
       (law g e.anchor e.offer e.url response.0 small right ∙ sym (ap (body_below g e.anchor e.offer) all) ∙ sym (given.bytes_are told holds)) right

@@ -1,7 +1,9 @@
+mod Caches
 mod Copied
 mod Found
 mod Given
+mod Leavings
 mod Named
 mod Searched
 mod Served
-mod Leavings
+mod Urls

@@ -66,13 +66,16 @@ module _ (g : Ground (List ℕ)) where
         sym (offer_is k old) ∙ offer_is n new
 
     pub named : (n : ℕ) → Contains v.seen (Named r.anchor r.version Offer n) → (r.anchor < g.setting.anchors) × (IsOldOffer g r.anchor n ⊎ (g.setting.slots ≤ n))
-    named n seen = (at_anchor.0, dite (ℕ_discrete (r.version - opening_counter g.setting) 0)
-        (λ e. let old : IsOldEntry (offering_of g) g.setting stands.state r.anchor = stands.rule.offered.old r.anchor at_anchor.0 some_slot (let v = at_anchor.1.version_is in omega arith) in inl record {
-          below = subst (λ (z : ℕ). z < g.setting.slots) (offer_is n seen) old.inside;
-          first = sym (offer_is n seen) ∙ old.offer;
-          some_slots = not_empty (g.chain r.anchor) (let l = ap length old.slots in let m = some_slot in omega arith);
-        })
-        (λ ne. inr (subst (λ (z : ℕ). g.setting.slots ≤ z) (offer_is n seen) (stands.rule.sound.cells.names.offers r.anchor at_anchor.0 some_slot (let v = at_anchor.1.version_is in omega arith)))))
+    named n seen = (
+      at_anchor.0,
+      dite (ℕ_discrete (r.version - opening_counter g.setting) 0)
+          (λ e. let old : IsOldEntry (offering_of g) g.setting stands.state r.anchor = stands.rule.offered.old r.anchor at_anchor.0 some_slot (let v = at_anchor.1.version_is in omega arith) in inl record {
+            below = subst (λ (z : ℕ). z < g.setting.slots) (offer_is n seen) old.inside;
+            first = sym (offer_is n seen) ∙ old.offer;
+            some_slots = not_empty (g.chain r.anchor) (let l = ap length old.slots in let m = some_slot in omega arith);
+          })
+          (λ ne. inr (subst (λ (z : ℕ). g.setting.slots ≤ z) (offer_is n seen) (stands.rule.sound.cells.names.offers r.anchor at_anchor.0 some_slot (let v = at_anchor.1.version_is in omega arith)))),
+    )
 
 module _ {C O : Type 0} (tells : Bool) (state : C → CellState) (offers : O → Offers) (s : Store C O) (p : Pass C) (t : ℕ) (e : Standing) (reads : ReadsAs tells state offers s p t e) where
   abbrev g0 : Ground (List ℕ)
@@ -81,7 +84,7 @@ module _ {C O : Type 0} (tells : Bool) (state : C → CellState) (offers : O →
   pub named_offer : (e.anchor < g0.setting.anchors) × (IsOldOffer g0 e.anchor e.offer ⊎ (g0.setting.slots ≤ e.offer))
   named_offer =
       let seen : Contains (view p).seen (Named reads.reader.anchor reads.reader.version Offer e.offer) =
-          subst (λ (n : ℕ). Contains (view p).seen (Named reads.reader.anchor n Offer e.offer)) (sym reads.version_is)
-          (subst (λ (n : ℕ). Contains (view p).seen (Named n e.version Offer e.offer)) (sym reads.anchor_is) reads.offer_seen) in
+      subst (λ (n : ℕ). Contains (view p).seen (Named reads.reader.anchor n Offer e.offer)) (sym reads.version_is)
+      (subst (λ (n : ℕ). Contains (view p).seen (Named n e.version Offer e.offer)) (sym reads.anchor_is) reads.offer_seen) in
       subst (λ (a : ℕ). (a < g0.setting.anchors) × (IsOldOffer g0 a e.offer ⊎ (g0.setting.slots ≤ e.offer))) reads.anchor_is
       (named g0 t (view p) reads.own.stands (pass_of p) reads.below reads.reader reads.is e.offer seen)

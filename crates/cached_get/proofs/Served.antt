@@ -49,12 +49,17 @@ module _ {D O M : Type 0} (tells : Bool) (state : D → CellState) (offers : O �
     served_on OtherUrl bytes w got vain whole part = inl record { offer = offer; got = got; looked = w; vain = inl vain; uncopied = inl ((λ e. cc), part (λ e. cc)) }
     served_on Fault bytes w got vain whole part = inl record { offer = offer; got = got; looked = w; vain = inl vain; uncopied = inl ((λ e. cc), part (λ e. cc)) }
 
+    -- no number of 64 bits is that of its copy, so memory was not asked
+    pub unasked_on : (ended : More) (bytes : List ℕ) → GotNamed tells state offers disk whole_tab url p q version offer bytes ended → 2 ^ 64 ≤ m.setting.slots + offer
+        → Cached tells state offers disk copies mem url p q u u (Disk (Found version ended) bytes)
+    unasked_on ended bytes got many = inl record { offer = offer; got = got; looked = u; vain = inr (many, refl); uncopied = inr (inl (many, refl)) }
+
     module _ (law : WholeLaw) (small : g.slot < 4294967296) (c : IsCacheOf tells g m) where
       -- what was read of the disk's entry to its end is the response of its offer
       pub disk_response : (bytes : List ℕ) → GotNamed tells state offers disk whole_tab url p q version offer bytes End → IsTrue tells → IsResponse g (anchor_for g url) offer url bytes
       disk_response bytes got told = whole_given tells state offers disk whole_tab law small (newly (anchor_for g url) version offer url) got.opened got.went.read bytes refl got.reads got.went.went told (c.holds told)
 
-      pub hit_on : (ended : More) (bytes : List ℕ) → GotNamed tells state offers disk whole_tab url p q version offer bytes ended → IfHit (Disk (Found version ended) bytes) (IsHit tells state offers disk copies mem url p q u v)
+      pub hit_on : (ended : More) (bytes : List ℕ) → GotNamed tells state offers disk whole_tab url p q version offer bytes ended → IfHit (Disk (Found version ended) bytes) (IsHit tells state offers disk url p)
       hit_on End bytes got = record { opened = got.opened; offer = offer; opens = got.opens; seen = got.reads.offer_seen; response = disk_response bytes got }
       hit_on (Piece count) bytes got = tt
       hit_on (NotYet epoch) bytes got = tt
@@ -70,7 +75,7 @@ module _ {D O M : Type 0} (tells : Bool) (state : D → CellState) (offers : O �
     module _ (law : WholeLaw) (small : m.slot < 4294967296) (c : IsCacheOf tells g m) where
       -- what was read of a copy to its end is the response of the disk's offer
       pub hit_in_memory : (bytes : List ℕ) → OpenedOnly tells state offers disk whole_tab url p q version offer → GotCopy tells copies mem (m.setting.slots + offer) url u v bytes End
-          → IsHit tells state offers disk copies mem url p q u v version bytes
+          → IsHit tells state offers disk url p version bytes
       hit_in_memory bytes only copy = record {
         opened = only.opened;
         offer = offer;

@@ -19,9 +19,6 @@ module _ (tells : Bool) (g : Ground (List ℕ)) where
     -- what is offered is said where the cells tell and the store's origin says what it offers
     pub told : copies.told ≡ (tells && g.offers.told)
 
-  abbrev pub Copies : Type 0
-  Copies = (copies : Offers) × AreCopies copies
-
 -- A store in memory with the ground m keeps copies of what a store with the ground g has: its slots are as wide, it is offered such copies, and it
 -- began with no entry.
 pub record IsCacheOf (tells : Bool) (g m : Ground (List ℕ)) : Type 0 where

@@ -4,6 +4,7 @@ use Rattle.lock_word.specs.declared.cause.Cause.{Cause}
 use Rattle.rock_disk.specs.Cell.{CellState}
 use Rattle.slot_cell.specs.declared.header.TheConstants.{HEADER_SIZE}
 use Rattle.store_key.specs.Url.{IsUrl}
+use Rattle.core_model.specs.Tabs.{InnerIsFree}
 use Rattle.core_model.specs.declared.moves.Side.TheVariants.{Offer}
 use Rattle.core_model.specs.declared.view.Sight.TheVariants.{Named}
 use Rattle.store_rule.specs.declared.store.Pass.{Pass}
@@ -15,6 +16,7 @@ use Rattle.mem_cache.specs.declared.cell.PageCell.{PageCell}
 use Rattle.rock_reader.specs.declared.answer.More.{More}
 use Rattle.rock_reader.specs.declared.answer.More.TheVariants.{End}
 use Rattle.rock_reader.specs.Opening.{Refused}
+use Rattle.rock_reader.specs.Reading.{ReadsAs, newly}
 use Rattle.rock_reader.specs.Responses.{IsResponse}
 use Rattle.rock_writer.specs.declared.fault.Ended.{Ended}
 use Rattle.store_serve.specs.Tabs.{IsFree, IsReady, MayGo}
@@ -42,6 +44,16 @@ module _ {D O M : Type 0} (tells : Bool) (state : D → CellState) (offers : O �
     pub ready : IsReady tells state offers disk p
     pub free : IsFree p whole_tab
     pub name : MayGo tells state offers disk p url
+    pub mem_ready : IsReady tells cell_state copies mem u
+    pub mem_free : IsFree u whole_tab
+    pub good : IsUrl url
+    pub caches : IsCacheOf tells g m
+    pub enough : g.slot ≤ room + HEADER_SIZE
+
+  -- The disk's entry of the URL was opened, which has this version and this offer. All else is so as where getting begins.
+  pub record MayServe (p : Pass D) (u : Pass (PageCell D)) (version offer room : ℕ) : Type 0 where
+    pub reads : ReadsAs tells state offers disk p whole_tab (newly (anchor_for g url) version offer url)
+    pub inner_free : InnerIsFree (view p)
     pub mem_ready : IsReady tells cell_state copies mem u
     pub mem_free : IsFree u whole_tab
     pub good : IsUrl url
@@ -97,13 +109,14 @@ module _ {D O M : Type 0} (tells : Bool) (state : D → CellState) (offers : O �
     Cached (Disk (Found version ended) bytes) = OnlyRead version ended bytes ⊎ ReadAndCopied version ended bytes
     Cached (Mem version bytes) = FromMemory version bytes
 
-    -- The disk's entry of this version was opened. Where its cells tell, these bytes are the whole body of the response of its offer, under the URL.
-    pub record IsHit (version : ℕ) (bytes : List ℕ) : Type 0 where
-      pub opened : Pass D
-      pub offer : ℕ
-      pub opens : OpenedNamed g whole_tab url (view p) version offer (view opened)
-      pub seen : Contains (view opened).seen (Named (anchor_for g url) version Offer offer)
-      pub response : IsTrue tells → IsResponse g (anchor_for g url) offer url bytes
+module _ {D O : Type 0} (tells : Bool) (state : D → CellState) (offers : O → Offers) (disk : Store D O) (url : List ℕ) (p : Pass D) where
+  -- The disk's entry of this version was opened. Where its cells tell, these bytes are the whole body of the response of its offer, under the URL.
+  pub record IsHit (version : ℕ) (bytes : List ℕ) : Type 0 where
+    pub opened : Pass D
+    pub offer : ℕ
+    pub opens : OpenedNamed (basis tells state offers disk) whole_tab url (view p) version offer (view opened)
+    pub seen : Contains (view opened).seen (Named (anchor_for (basis tells state offers disk) url) version Offer offer)
+    pub response : IsTrue tells → IsResponse (basis tells state offers disk) (anchor_for (basis tells state offers disk) url) offer url bytes
 
 -- a fact of an answer with a whole body, wherever that was read
 abbrev pub IfHit : Answer → (ℕ → List ℕ → Type 0) → Type 0

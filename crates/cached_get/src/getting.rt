@@ -1,22 +1,19 @@
 // The entry of a URL is got from memory, or from the disk.
-ghost use Rattle.std.specs.Prelude.{IfOk, IsTrue, OnErr, length, ◌<◌, ◌≡◌};
+ghost use Rattle.std.specs.Prelude.{IfOk, IsTrue, OnErr, length, ◌≡◌};
 ghost use Rattle.cached_get.specs.Getting.{Cached, IfDisk, IfHit, IfMem, IsHit, MayGet};
 ghost use Rattle.mem_cache.specs.Cell.{cell_state};
 ghost use Rattle.rock_io.specs.Faults.{Rose};
-ghost use Rattle.store_rule.specs.Passes.{basis};
 ghost use Rattle.store_serve.specs.Getting.{EndedWith};
 ghost use Rattle.store_serve.specs.Tabs.{IsFree, Leaves};
 ghost use Rattle.store_serve.specs.Whole.{whole_tab};
 
 use crate::answer::Answer;
-use crate::copying::copy_read;
-use crate::looking::look_in_memory;
 use crate::opening::open_named;
-use crate::reading::{close_unread, read_out};
+use crate::serving::get_named;
 use mem_cache::PageCell;
 use rock_disk::{Cell, Station};
 use rock_io::{Memory, Octets};
-use rock_reader::{More, bodies_are_given_from_the_front};
+use rock_reader::More;
 use std::alloc::Global;
 use std::sync::Wait;
 use store_rule::{Origin, Pass, Store};
@@ -43,7 +40,7 @@ pub fn cached_get<R: Wait, D: Cell, O: Origin, St: Station<C = D>, M: Origin>(
     requires may { MayGet D.tells D.state O.offers disk.now M.offers mem.now url.now disk_pass.old mem_pass.old (length piece.old) }
     requires told { IsTrue D.tells }
     ensures served { IfOk result (λ answer. Cached D.tells D.state O.offers disk.now M.offers mem.now url.now disk_pass.old disk_pass.new mem_pass.old mem_pass.new answer) }
-    ensures hit { IfOk result (λ answer. IfHit answer (IsHit D.tells D.state O.offers disk.now M.offers mem.now url.now disk_pass.old disk_pass.new mem_pass.old mem_pass.new)) }
+    ensures hit { IfOk result (λ answer. IfHit answer (IsHit D.tells D.state O.offers disk.now url.now disk_pass.old)) }
     ensures unread { IfOk result (λ answer. IfMem answer (station.new ≡ station.old)) }
     ensures free { IsFree disk_pass.new whole_tab }
     ensures mem_free { IsFree mem_pass.new whole_tab }
@@ -55,9 +52,6 @@ pub fn cached_get<R: Wait, D: Cell, O: Origin, St: Station<C = D>, M: Origin>(
     ensures memory { OnErr result (St.faults station.new ≡ St.faults station.old) }
     ensures length { length piece.new ≡ length piece.old }
 {
-    bodies_are_given_from_the_front();
-    slots_are_small(disk);
-    slots_are_small(mem);
     let named = match open_named(disk, disk_pass, url) {
         Ok(named) => named,
         Err(cause) => {
@@ -67,49 +61,7 @@ pub fn cached_get<R: Wait, D: Cell, O: Origin, St: Station<C = D>, M: Origin>(
             });
         }
     };
-    let Some(copy) = u64::from(mem.slots()).checked_add(named.offer) else {
-        let Ok(read) = read_out(rt, alloc, disk, disk_pass, station, piece) else {
-            return Err(Memory);
-        };
-        return Ok(Answer::Disk {
-            got: Got::Found {
-                version: named.version,
-                ended: read.ended,
-            },
-            bytes: read.bytes,
-        });
-    };
-    match look_in_memory(rt, alloc, mem, mem_pass, copy, url, piece) {
-        Ok(Some(bytes)) => {
-            close_unread(disk, disk_pass);
-            Ok(Answer::Mem {
-                version: named.version,
-                bytes,
-            })
-        }
-        Ok(None) => {
-            let Ok(read) = read_out(rt, alloc, disk, disk_pass, station, piece) else {
-                return Err(Memory);
-            };
-            let kept = copy_read(mem, mem_pass, copy, url, read);
-            Ok(Answer::Disk {
-                got: Got::Found {
-                    version: named.version,
-                    ended: kept.ended,
-                },
-                bytes: kept.bytes,
-            })
-        }
-        Err(Memory) => {
-            close_unread(disk, disk_pass);
-            Err(Memory)
-        }
-    }
-}
-
-// The size of a slot has 32 bits.
-fn slots_are_small<C: Cell, O: Origin>(store: &Store<C, O>)
-    ensures { (basis C.tells C.state O.offers store.now).slot < 4294967296 }
-{
-    let _size = store.slot_size();
+    get_named(
+        rt, alloc, disk, disk_pass, station, mem, mem_pass, url, piece, named,
+    )
 }

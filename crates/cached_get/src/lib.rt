@@ -5,11 +5,13 @@ mod answer;
 mod copies;
 mod copying;
 mod getting;
+mod laws;
 mod looking;
 mod opening;
-mod origins;
 mod reading;
+mod serving;
 
 pub use answer::Answer;
 pub use copies::CopyOrigin;
 pub use getting::cached_get;
+pub use laws::new_stores_keep_copies;

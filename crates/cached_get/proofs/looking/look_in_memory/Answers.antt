@@ -23,9 +23,11 @@ returns-then-named-offer-clause-leaves g c = leaves_both g.D.Cell.tells cell_sta
 pub returns-in-Ok-read_out-clause-looked : goal.returns-in-Ok-read_out-clause-looked
 returns-in-Ok-read_out-clause-looked g c =
     let same : c.in-Ok.named.offer ≡ c.args.offer = let f = c.if-named-offer.false in omega arith in
-    looked_of g.D.Cell.tells g.M.Origin.offers c.args.mem.now c.args.offer c.args.url.now c.args.pass.now c.read_out.new.pass c.whole_of.result c.in-Ok-read_out.read.bytes c.in-Ok-read_out.read.ended c.whole_of.ensures
-    (c.in-Ok.named.version, subst (λ (n : ℕ). GotNamed g.D.Cell.tells cell_state g.M.Origin.offers c.args.mem.now whole_tab c.args.url.now c.args.pass.now c.read_out.new.pass c.in-Ok.named.version n c.in-Ok-read_out.read.bytes c.in-Ok-read_out.read.ended) same
-    record { opened = c.open_named.new.pass; opens = c.in-Ok.ensures.ok; reads = c.in-Ok.ensures.reads; went = c.in-Ok-read_out.ensures.went _ c.in-Ok.ensures.reads })
+    looked_of g.D.Cell.tells g.M.Origin.offers c.args.mem.now c.args.offer c.args.url.now c.args.pass.now c.read_out.new.pass c.whole_of.result c.in-Ok-read_out.read.bytes c.in-Ok-read_out.read.ended c.whole_of.ensures (
+      c.in-Ok.named.version,
+      subst (λ (n : ℕ). GotNamed g.D.Cell.tells cell_state g.M.Origin.offers c.args.mem.now whole_tab c.args.url.now c.args.pass.now c.read_out.new.pass c.in-Ok.named.version n c.in-Ok-read_out.read.bytes c.in-Ok-read_out.read.ended) same
+          record { opened = c.open_named.new.pass; opens = c.in-Ok.ensures.ok; reads = c.in-Ok.ensures.reads; went = c.in-Ok-read_out.ensures.went _ c.in-Ok.ensures.reads },
+    )
 
 pub returns-in-Ok-read_out-clause-leaves : goal.returns-in-Ok-read_out-clause-leaves
 returns-in-Ok-read_out-clause-leaves g c = leaves_both g.D.Cell.tells cell_state g.M.Origin.offers c.args.mem.now whole_tab c.args.pass.now c.open_named.new.pass c.read_out.new.pass c.in-Ok.ensures.leaves c.read_out.ensures.leaves

@@ -45,11 +45,11 @@ returns-clause-reads g c =
     let tabs = load_tabs ground (view p) (view q) whole_tab made.found Offer offer_start made.step in
     let tab = ap (λ (xs : List (Tab (List ℕ))). get_or xs whole_tab Free) tabs in
     let still : ReadsAs g.C.Cell.tells g.C.Cell.state g.O.Origin.offers store q whole_tab e = c.readers_stay.ensures store p q whole_tab e was.1 made.own tab
-        (ap (λ (ds : List Desk). buffer_at ds whole_tab) made.desks, ap (λ (ds : List Desk). draft_at ds whole_tab) made.desks)
-        (c.growing_adds_up.ensures.step ground (view p) (view q) (LoadSide whole_tab Offer) made.found made.step) in
+    (ap (λ (ds : List Desk). buffer_at ds whole_tab) made.desks, ap (λ (ds : List Desk). draft_at ds whole_tab) made.desks)
+    (c.growing_adds_up.ensures.step ground (view p) (view q) (LoadSide whole_tab Offer) made.found made.step) in
     let same = named_again ground whole_tab (view q) still.own.stands (pass_of q) (omega arith) still.reader still.is (view p) made.found was.0 (sym tab ∙ still.is) made.step
-        (subst (λ (a : ℕ). Rattle.std.specs.List.Contains (view p).seen (Rattle.core_model.specs.declared.view.Sight.TheVariants.Named a still.reader.version Offer was.0)) (sym still.anchor_is)
-        (subst (λ (n : ℕ). Rattle.std.specs.List.Contains (view p).seen (Rattle.core_model.specs.declared.view.Sight.TheVariants.Named e.anchor n Offer was.0)) (sym still.version_is) was.1.offer_seen)) in
+    (subst (λ (a : ℕ). Rattle.std.specs.List.Contains (view p).seen (Rattle.core_model.specs.declared.view.Sight.TheVariants.Named a still.reader.version Offer was.0)) (sym still.anchor_is)
+    (subst (λ (n : ℕ). Rattle.std.specs.List.Contains (view p).seen (Rattle.core_model.specs.declared.view.Sight.TheVariants.Named e.anchor n Offer was.0)) (sym still.version_is) was.1.offer_seen)) in
     subst (λ (n : ℕ). ReadsAs g.C.Cell.tells g.C.Cell.state g.O.Origin.offers store q whole_tab (newly (anchor_for ground c.args.url.now) c.in-Ok.version n c.args.url.now)) (same ∙ sym made.answers) still
 
 pub returns-clause-leaves : goal.returns-clause-leaves
