@@ -36,23 +36,20 @@ begins_so : (slot s : ℕ) (chain rest : List ℕ) → chain ≡ s ∷ rest → 
 begins_so slot s chain rest is same = ap (begins_at slot) is ∙ eq-eqb s slot same
 
 module _ (chain : ℕ → List ℕ) (slot a : ℕ) (begins : begins_at slot (chain a) ≡ true) where
-  IsFound : ℕ → ℕ → Type 0
+  abbrev IsFound : ℕ → ℕ → Type 0
   IsFound most found = (found < most) × (begins_at slot (chain found) ≡ true)
 
-  unfolding IsFound
-
-  by : (most : ℕ) (b : Bool) → begins_at slot (chain most) ≡ b → (a < most → IsFound most (anchor_at chain slot most)) → a ≤ most → IsFound (suc most) (cond b most (anchor_at chain slot most))
-  by most true is earlier within = (omega arith, is)
-  by most false is earlier within =
+  -- one more anchor is looked at
+  found_on : (most earlier : ℕ) (b : Bool) → begins_at slot (chain most) ≡ b → (a < most → IsFound most earlier) → a < suc most → IsFound (suc most) (cond b most earlier)
+  found_on most earlier true is found within = (omega arith, is)
+  found_on most earlier false is found within =
       let other : a ≢ most = λ same. no_true (sym is ∙ ap (λ (n : ℕ). begins_at slot (chain n)) (sym same) ∙ begins) in
-      let found = earlier (omega (arith, other, within)) in
-      (omega (arith, found.0), found.1)
+      let before = found (omega (arith, other, within)) in
+      (omega (arith, before.0), before.1)
 
-  unfolding IsFound
-
-  pub is_found : (most : ℕ) → a < most → (anchor_at chain slot most < most) × (begins_at slot (chain (anchor_at chain slot most)) ≡ true)
+  pub is_found : (most : ℕ) → a < most → IsFound most (anchor_at chain slot most)
   is_found zero within = absurd (omega (arith, within))
-  is_found (suc most) within = by most (begins_at slot (chain most)) refl (is_found most) (omega (arith, within))
+  is_found (suc most) within = found_on most (anchor_at chain slot most) (begins_at slot (chain most)) refl (is_found most) within
 
 -- ---- so an entry of the opening is told by its first slot
 
@@ -86,12 +83,27 @@ module _ (begins : OneBegins) (law : WholeLaw) (g : Ground (List ℕ)) (small : 
         } in
         sym (law g k offer h.0.url h.0.body small response) ∙ ap Entry.body same ∙ was.body_is
 
--- an offer of the origin is told by it
+module _ (g : Ground (List ℕ)) (offer : ℕ) where
+  url_of_old : offer < g.setting.slots → url_at g offer ≡ url_in (payload_at g.setting.contents offer)
+  url_of_old low = ap (λ (b : Bool). cond b (url_in (payload_at g.setting.contents offer)) (url_of g offer)) (lt-ltb offer g.setting.slots low)
+
+  url_of_new : g.setting.slots ≤ offer → url_at g offer ≡ url_of g offer
+  url_of_new high = ap (λ (b : Bool). cond b (url_in (payload_at g.setting.contents offer)) (url_of g offer)) (le-ltb offer g.setting.slots high)
+
+  body_of_old : offer < g.setting.slots → body_in g offer ≡ body_below g (old_anchor g offer) offer (pieces_of g (old_anchor g offer) offer)
+  body_of_old low = ap (λ (b : Bool). cond b (body_below g (old_anchor g offer) offer (pieces_of g (old_anchor g offer) offer)) (g.offers.body (offer - g.setting.slots))) (lt-ltb offer g.setting.slots low)
+
+  body_of_new : g.setting.slots ≤ offer → body_in g offer ≡ g.offers.body (offer - g.setting.slots)
+  body_of_new high = ap (λ (b : Bool). cond b (body_below g (old_anchor g offer) offer (pieces_of g (old_anchor g offer) offer)) (g.offers.body (offer - g.setting.slots))) (le-ltb offer g.setting.slots high)
+
+-- any other offer is told by the origin
 pub are_copies : OneBegins → WholeLaw → (tells : Bool) (g : Ground (List ℕ)) → g.slot < 4294967296 → (IsTrue tells → HoldsFile g) → AreCopies tells g (copies_in tells g)
 are_copies begins law tells g small holds = record {
-  new = λ offer high. let e = le-ltb offer g.setting.slots high in (rw e refl, rw e refl);
-  old = λ told a offer url body there low first was. let e = lt-ltb offer g.setting.slots low in
-      (rw e (old_url begins law g small (holds told) a offer url body there low first was), rw e (old_body begins law g small (holds told) a offer url body there low first was));
+  new = λ offer high. (url_of_new g offer high, body_of_new g offer high);
+  old = λ told a offer url body there low first was. (
+    url_of_old g offer low ∙ old_url begins law g small (holds told) a offer url body there low first was,
+    body_of_old g offer low ∙ old_body begins law g small (holds told) a offer url body there low first was,
+  );
   alone = λ anchors a. refl;
   need = λ anchors slot a. refl;
   told = refl;
