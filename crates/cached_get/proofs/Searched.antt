@@ -1,6 +1,6 @@
 -- What an origin of copies offers is what a store that holds the entries of its file has.
-use Rattle.std.proofs.Common.{Bool, IsTrue, List, [], ◌∷◌, ap, arith, false, inl, inr, length, refl, subst, suc, sym, true, zero, ◌-◌, ◌<◌, ◌≡◌, ◌≤◌, ◌⊎◌, ◌∙◌, ℕ}
-use Rattle.std.specs.Prelude.{cond, ◌==◌, ◌≢◌}
+use Rattle.std.proofs.Common.{Bool, IsTrue, List, [], ◌∷◌, ap, arith, false, refl, suc, sym, true, zero, ◌-◌, ◌<◌, ◌≡◌, ◌≤◌, ◌∙◌, ℕ}
+use Rattle.std.specs.Prelude.{cond, ◌≢◌}
 use Rattle.std.proofs.lemmas.Bool.{eq-eqb, eqb-true, le-ltb, lt-ltb}
 use Rattle.rebuild_model.specs.Entry.{Entry, IsComplete}
 use Rattle.rebuild_model.specs.Image.{payload_at}
@@ -20,12 +20,6 @@ OneBegins = (slot : ℕ) (images : List (List ℕ)) (e f : Entry) → IsComplete
 
 no_true : false ≡ true → ⊥
 no_true e = cc
-
-same_first : {x y : ℕ} {xs ys : List ℕ} → x ∷ xs ≡ y ∷ ys → x ≡ y
-same_first e = cc
-
-some_there : {x : ℕ} {xs ys : List ℕ} → ys ≡ x ∷ xs → ys ≢ []
-some_there is none = cc
 
 -- what a chain that begins with a slot is
 begins_is : (slot : ℕ) (chain : List ℕ) → begins_at slot chain ≡ true → (chain ≢ []) × (first_of chain ≡ slot)

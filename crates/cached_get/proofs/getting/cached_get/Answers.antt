@@ -1,11 +1,11 @@
-use Rattle.std.proofs.Common.{refl}
+use Rattle.std.proofs.Common.{refl, ◌∙◌}
 use Rattle.mem_cache.specs.Cell.{cell_state}
 use Rattle.store_serve.specs.Whole.{whole_tab}
 use Rattle.store_serve.proofs.Leaving.{leaves_all, leaves_both}
 use Rattle.cached_get.proofs.getting.cached_get.Goals as goal
 
 pub returns-in-Err-clause-served : goal.returns-in-Err-clause-served
-returns-in-Err-clause-served g c = record { refused = c.in-Err.ensures.err; none = c.from_vec.ensures; unasked = refl }
+returns-in-Err-clause-served g c = record { refused = c.in-Err.ensures.err; none = c.from_vec.ensures ∙ c.new.ensures.items; unasked = refl }
 
 pub returns-in-Err-clause-mem_leaves : goal.returns-in-Err-clause-mem_leaves
 returns-in-Err-clause-mem_leaves g c = leaves_all g.D.Cell.tells cell_state g.M.Origin.offers c.args.mem.now whole_tab c.args.mem_pass.now c.requires.may.mem_ready
