@@ -1,2 +1,4 @@
 mod Alone
 mod Going
+mod Held
+mod New
