@@ -1,9 +1,12 @@
 // The lines of one worker are served on a store, and each `get` among them by way of a store in memory.
 ghost use Rattle.std.specs.Prelude.{IsTrue, ◌≡◌};
+ghost use Rattle.cached_get.specs.Copies.{IsCacheOf};
+ghost use Rattle.mem_cache.specs.Cell.{cell_state};
 ghost use Rattle.rock_run.specs.Asked.{IsAsked, IsFound};
 ghost use Rattle.rock_run.specs.Offered.{offers_of};
 ghost use Rattle.rock_run.specs.Scripts.{MayBeServed};
 ghost use Rattle.store_key.specs.Url.{IsUrl};
+ghost use Rattle.store_rule.specs.Passes.{basis};
 ghost use Rattle.store_serve.specs.Tabs.{MayGo};
 ghost use Rattle.test_cached.specs.Idle.{AreIdle, AreMade};
 
@@ -61,17 +64,16 @@ fn get_told<R: Wait, C: Cell, St: Station<C = C>, M: Origin>(
     station: &mut St,
     mem: &Store<PageCell<C>, M>,
     mem_pass: &mut Pass<PageCell<C>>,
-    script: &Script,
     url: &[u8],
 ) -> Option<String>
-    requires made { AreMade C.tells C.state offers_of disk.now M.offers mem.now (offers_of script.now.lines) }
+    requires caches { IsCacheOf C.tells (basis C.tells C.state offers_of disk.now) (basis C.tells cell_state M.offers mem.now) }
+    requires size { (basis C.tells C.state offers_of disk.now).slot ≡ 512 }
     requires idle { AreIdle C.tells C.state offers_of disk.now M.offers mem.now pass.old mem_pass.old }
     requires tells { IsTrue C.tells }
     requires good { IsUrl url.now }
     requires name { MayGo C.tells C.state offers_of disk.now pass.old url.now }
     ensures idle { AreIdle C.tells C.state offers_of disk.now M.offers mem.now pass.new mem_pass.new }
 {
-    let _ = script;
     let mut piece = [0u8; 512];
     let answer = cached_get(
         rt, alloc, disk, pass, station, mem, mem_pass, url, &mut piece,
@@ -121,7 +123,6 @@ fn told<R: Wait, C: Cell, St: Station<C = C>, M: Origin>(
             station,
             mem,
             mem_pass,
-            script,
             url.as_slice(),
         ),
         _ => None,

@@ -11,8 +11,8 @@ cached_get-answer-requires-clause-may g c = record {
   mem_ready = c.requires.idle.mem_ready;
   mem_free = c.requires.idle.mem_free;
   good = c.requires.good;
-  caches = c.requires.made.caches;
-  enough = let wide = c.requires.made.slot_is in omega (arith, wide);
+  caches = c.requires.caches;
+  enough = let wide = c.requires.size in omega (arith, wide);
 }
 
 pub returns-in-Ok : goal.returns-in-Ok
